@@ -1,0 +1,29 @@
+-- A buffer that is written from its start. Assumes nothing.
+use mathlib.Core.Path.{_≡_, refl, sym, _∙_}
+use mathlib.Core.List.{List, [], _∷_}
+use Prim.Native.Nat.{ℕ, zero, suc, _+_, _≤_, _<_}
+use native.Mathlib.Numerals.{add-one}
+use native.Mathlib.Omega.{arith}
+use lib.ListN.{length, getD, set, drop, length-append, length-drop}
+use lib.Seq.{drop-cons, set-at, append-snoc}
+use Rattle.bdz_base.specs.Buffer.{tab, over}
+
+pub length-tab : (f : ℕ → ℕ) (n : ℕ) → length (tab f n) ≡ n
+unfolding tab
+length-tab f zero = refl
+length-tab f (suc n) = length-append (tab f n) (f n ∷ []) ∙ omega (arith, length-tab f n)
+
+-- nothing written yet
+pub tab-none : (f : ℕ → ℕ) (old : List ℕ) → old ≡ over (tab f 0) old
+unfolding tab
+tab-none f old = refl
+
+-- one element more
+pub tab-more : (f : ℕ → ℕ) (n : ℕ) (old : List ℕ) {x : ℕ} → n < length old → x ≡ f n → set (over (tab f n) old) n x ≡ over (tab f (n + 1)) old
+unfolding tab
+tab-more f n old h e =
+    rw (length-tab f n, length-tab f (n + 1), drop-cons old n 0 h, set-at (tab f n) (getD old n 0) (drop (suc n) old) _ n (length-tab f n), e, add-one n)
+    (sym (append-snoc (tab f n) (f n) (drop (suc n) old)))
+
+pub length-over : {A : Type 0} (new old : List A) → length new ≤ length old → length (over new old) ≡ length old
+length-over new old h = rw (length-append, length-drop) (omega arith)

@@ -1,0 +1,58 @@
+-- `bdz_base::pack::give_bytes` meets its contract. The loop's invariant: so many bytes have gone out. Assumes nothing.
+use Prim.Native.Nat.{_+_, _/_, _≤_}
+use native.Mathlib.Omega.{arith}
+use borrow.Author.Needs.{needs}
+use lib.ListN.{length}
+use Rattle.bdz_base.proofs.Packing.{Giving, none-given, byte-given, all-given}
+use Rattle.bdz_base.proofs.pack.give_bytes.Statement.{statement}
+use Rattle.bdz_base.proofs.pack.give_bytes.Tie as tie
+
+abbrev Inv-loop : tie.InvT-loop
+Inv-loop body₀ acc₀ bits₀ at₀ body acc bits at =
+    (at + bits / 8 ≤ length body₀) × Giving body₀ acc₀ bits₀ at₀ body acc bits at
+
+abbrev μ-loop : tie.MeasureT-loop
+μ-loop body₀ acc₀ bits₀ at₀ body acc bits at = bits
+
+loop-holds : tie.Need-loop-holds Inv-loop μ-loop
+loop-holds c =
+    let a = c .before .args in
+    (omega arith, none-given (a .body .now) (a .carry .acc) (a .carry .bits) (a .carry .at))
+
+low-byte-requires : tie.Need-low-byte-requires Inv-loop μ-loop
+low-byte-requires c κs = search needs
+
+slice-write-body : tie.Need-slice-write-body Inv-loop μ-loop
+slice-write-body c = omega arith
+
+add-at : tie.Need-add-at Inv-loop μ-loop
+add-at c = omega arith
+
+loop-less : tie.Need-loop-less Inv-loop μ-loop
+loop-less c = omega arith
+
+loop-again : tie.Need-loop-again Inv-loop μ-loop
+loop-again c =
+    let l = c .before .before .loop in
+    (omega arith, byte-given (l .inv .1) (omega arith) (omega arith) (c .low-byte .ensures))
+
+same-length : tie.Need-same-length Inv-loop μ-loop
+same-length c = omega arith
+
+returns : tie.Need-returns Inv-loop μ-loop
+returns c = all-given (c .before .loop .inv .1) (omega arith)
+
+pub give-bytes-spec : {M : Type 1} → statement M
+give-bytes-spec =
+    tie.close
+    (tie.spec
+    Inv-loop
+    μ-loop
+    loop-holds
+    low-byte-requires
+    slice-write-body
+    add-at
+    loop-less
+    loop-again
+    same-length
+    returns)
