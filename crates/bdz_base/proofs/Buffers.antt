@@ -1,7 +1,7 @@
 -- A buffer that is written from its start. Assumes nothing.
 use mathlib.Core.Path.{_≡_, refl, sym, _∙_}
 use mathlib.Core.List.{List, [], _∷_}
-use Prim.Native.Nat.{ℕ, zero, suc, _+_, _≤_, _<_}
+use Prim.Native.Nat.{ℕ, zero, suc, _+_, _*_, _≤_, _<_}
 use native.Mathlib.Numerals.{add-one}
 use native.Mathlib.Omega.{arith}
 use lib.ListN.{length, getD, set, drop, length-append, length-drop}
@@ -27,3 +27,10 @@ tab-more f n old h e =
 
 pub length-over : {A : Type 0} (new old : List A) → length new ≤ length old → length (over new old) ≡ length old
 length-over new old h = rw (length-append, length-drop) (omega arith)
+
+-- three elements more
+pub tab-three : (f : ℕ → ℕ) (i : ℕ) (old : List ℕ) {x y z : ℕ} → 3 * i + 2 < length old → x ≡ f (3 * i) → y ≡ f (3 * i + 1) → z ≡ f (3 * i + 2) → set (set (set (over (tab f (3 * i)) old) (3 * i) x) (3 * i + 1) y) (3 * i + 2) z ≡ over (tab f (3 * (i + 1))) old
+tab-three f i old h p q r =
+    let s : 3 * i + 1 + 1 ≡ 3 * i + 2 = omega arith in
+    let t : 3 * i + 2 + 1 ≡ 3 * (i + 1) = omega arith in
+    rw (tab-more f (3 * i) old (omega arith) p, tab-more f (3 * i + 1) old (omega arith) q, s, tab-more f (3 * i + 2) old h r, t)

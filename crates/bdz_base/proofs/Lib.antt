@@ -1,6 +1,8 @@
 pub mod Buffers
 pub mod Digits
 mod Halves
+pub mod Numbers
+pub mod OneAnswer
 mod Packing
 pub mod SizeLaws
 pub mod VertexLaws

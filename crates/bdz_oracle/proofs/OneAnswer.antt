@@ -1,0 +1,63 @@
+-- Each exported promise leaves one answer. Assumes nothing.
+use mathlib.Core.Path.{refl, sym, _∙_}
+use Rattle.bdz_base.proofs.OneAnswer.{OneResult, OneOutcome}
+use Rattle.bdz_oracle.proofs.hashing.bdz_splitmix64.Reads as bdz-splitmix64
+use Rattle.bdz_oracle.proofs.hashing.bdz_splitmix64_state.Reads as bdz-splitmix64-state
+use Rattle.bdz_oracle.proofs.hashing.bdz_mix64.Reads as bdz-mix64
+use Rattle.bdz_oracle.proofs.hashing.bdz_high_product.Reads as bdz-high-product
+use Rattle.bdz_oracle.proofs.hashing.bdz_vertex_count.Reads as bdz-vertex-count
+use Rattle.bdz_oracle.proofs.hashing.bdz_compact_vertex_count.Reads as bdz-compact-vertex-count
+use Rattle.bdz_oracle.proofs.hashing.bdz_g_bits_for_modulus.Reads as bdz-g-bits-for-modulus
+use Rattle.bdz_oracle.proofs.hashing.bdz_packed_g_bytes.Reads as bdz-packed-g-bytes
+use Rattle.bdz_oracle.proofs.hashing.bdz_occ_packed_bytes.Reads as bdz-occ-packed-bytes
+use Rattle.bdz_oracle.proofs.hashing.bdz_super_count.Reads as bdz-super-count
+use Rattle.bdz_oracle.proofs.packing.bdz_extract_g_window.Reads as bdz-extract-g-window
+use Rattle.bdz_oracle.proofs.packing.bdz_unpack_g_at.Reads as bdz-unpack-g-at
+use Rattle.bdz_oracle.proofs.hashing.bdz_hash_verts.Reads as bdz-hash-verts
+use Rattle.bdz_oracle.proofs.packing.bdz_pack_g.Reads as bdz-pack-g
+use Rattle.bdz_oracle.proofs.packing.bdz_unpack_g.Reads as bdz-unpack-g
+
+pub one-bdz-splitmix64 : (κs : _) (a : _) → OneResult (bdz-splitmix64.Post κs a)
+one-bdz-splitmix64 κs a x y s t p q = p ∙ sym q
+
+pub one-bdz-splitmix64-state : (κs : _) (a : _) → OneResult (bdz-splitmix64-state.Post κs a)
+one-bdz-splitmix64-state κs a x y s t p q = p ∙ sym q
+
+pub one-bdz-mix64 : (κs : _) (a : _) → OneResult (bdz-mix64.Post κs a)
+one-bdz-mix64 κs a x y s t p q = p ∙ sym q
+
+pub one-bdz-high-product : (κs : _) (a : _) → OneResult (bdz-high-product.Post κs a)
+one-bdz-high-product κs a x y s t p q = p ∙ sym q
+
+pub one-bdz-vertex-count : (κs : _) (a : _) → OneResult (bdz-vertex-count.Post κs a)
+one-bdz-vertex-count κs a x y s t p q = p ∙ sym q
+
+pub one-bdz-compact-vertex-count : (κs : _) (a : _) → OneResult (bdz-compact-vertex-count.Post κs a)
+one-bdz-compact-vertex-count κs a x y s t p q = p ∙ sym q
+
+pub one-bdz-g-bits-for-modulus : (κs : _) (a : _) → OneResult (bdz-g-bits-for-modulus.Post κs a)
+one-bdz-g-bits-for-modulus κs a x y s t p q = p ∙ sym q
+
+pub one-bdz-packed-g-bytes : (κs : _) (a : _) → OneResult (bdz-packed-g-bytes.Post κs a)
+one-bdz-packed-g-bytes κs a x y s t p q = p ∙ sym q
+
+pub one-bdz-occ-packed-bytes : (κs : _) (a : _) → OneResult (bdz-occ-packed-bytes.Post κs a)
+one-bdz-occ-packed-bytes κs a x y s t p q = p ∙ sym q
+
+pub one-bdz-super-count : (κs : _) (a : _) → OneResult (bdz-super-count.Post κs a)
+one-bdz-super-count κs a x y s t p q = p ∙ sym q
+
+pub one-bdz-extract-g-window : (κs : _) (a : _) → OneResult (bdz-extract-g-window.Post κs a)
+one-bdz-extract-g-window κs a x y s t p q = p ∙ sym q
+
+pub one-bdz-unpack-g-at : (κs : _) (a : _) → OneResult (bdz-unpack-g-at.Post κs a)
+one-bdz-unpack-g-at κs a x y s t p q = p ∙ sym q
+
+pub one-bdz-hash-verts : (κs : _) (a : _) → OneOutcome (λ s. s .1 .1 .1 .1 .0 .now) (bdz-hash-verts.Post κs a)
+one-bdz-hash-verts κs a x y s t p q = (p .number-is ∙ sym (q .number-is), p .after-is ∙ sym (q .after-is))
+
+pub one-bdz-pack-g : (κs : _) (a : _) → OneOutcome (λ s. s .1 .1 .0 .now) (bdz-pack-g.Post κs a)
+one-bdz-pack-g κs a x y s t p q = (p .number-is ∙ sym (q .number-is), p .after-is ∙ sym (q .after-is))
+
+pub one-bdz-unpack-g : (κs : _) (a : _) → OneOutcome (λ s. s .1 .1 .0 .now) (bdz-unpack-g.Post κs a)
+one-bdz-unpack-g κs a x y s t p q = (refl, p ∙ sym q)

@@ -1,0 +1,3 @@
+// What the Rust harness links: plain functions on numbers and slices, with keys as little-endian bytes.
+pub mod hashing;
+pub mod packing;
