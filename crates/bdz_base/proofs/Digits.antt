@@ -63,6 +63,22 @@ bytes-mod (suc n) j v =
     let e : j + suc n * 8 ≡ j + n * 8 + 8 = omega arith in
     rw (e, mod-mod-pow v (j + n * 8) 8, field v (j + n * 8) 8, bytes-mod n j (v / 2 ^ 8))
 
+-- ---- bits within bits
+
+pub bits-lt : (number s k : ℕ) {x : ℕ} → x ≡ bits number s k → x < 2 ^ k
+bits-lt number s k e = rw e (mod-lt (number / 2 ^ s) (pow-pos k))
+
+pub bits-within : (number a k r j : ℕ) → r + j ≤ k → bits (bits number a k) r j ≡ bits number (a + r) j
+bits-within number a k r j h =
+    let s : k - (r + j) + j + r ≡ k = omega arith in
+    let q : number / 2 ^ a % 2 ^ (k - (r + j) + j + r) / 2 ^ r % 2 ^ j ≡ number / 2 ^ (a + r) % 2 ^ j =
+    rw (field (number / 2 ^ a) (k - (r + j) + j) r, mod-mod-pow, shr-shr) in
+    subst (λ (m : ℕ). number / 2 ^ a % 2 ^ m / 2 ^ r % 2 ^ j ≡ number / 2 ^ (a + r) % 2 ^ j) s q
+
+-- bits of the lowest bits
+pub bits-low : (number k r j : ℕ) → r + j ≤ k → bits (number % 2 ^ k) r j ≡ bits number r j
+bits-low number k r j h = ap (λ (x : ℕ). bits (x % 2 ^ k) r j) (sym (div-one number)) ∙ bits-within number 0 k r j h ∙ rw zero-add
+
 -- ---- lists behind one another
 
 pub value-append : (w : ℕ) (xs ys : List ℕ) → valueOf w (xs ++ ys) ≡ valueOf w ys * 2 ^ (length xs * w) + valueOf w xs
@@ -84,9 +100,23 @@ pub bits-drop : (k n s : ℕ) (xs : List ℕ) → bitsAt k (drop n xs) s ≡ bit
 unfolding bitsAt
 bits-drop k n s xs = rw (value-drop 8 n xs, shr-shr (valueOf 8 xs) (n * 8) s)
 
--- the part from a byte on, as it is lent
-pub bits-part : (k n : ℕ) (xs : List ℕ) → n ≤ length xs → bitsAt k (take (length xs - n) (drop n xs)) 0 ≡ bitsAt k xs (n * 8)
-bits-part k n xs h =
+-- a list's first digits are the lowest of its number
+pub value-take : (w n : ℕ) (xs : List ℕ) → valueOf w (take n xs) ≡ valueOf w xs % 2 ^ (n * w)
+unfolding valueOf
+value-take w zero xs = rw zero-mul (sym (mod-one (valueOf w xs)))
+value-take w (suc n) [] = sym (zero-mod _)
+value-take w (suc n) (x ∷ xs) =
+    rw (value-take w n xs, suc-mul n w, mod-pow-add (valueOf w xs * 2 ^ w + x % 2 ^ w) (n * w) w, high (valueOf w xs) w (mod-lt x (pow-pos w)), low (valueOf w xs) w (mod-lt x (pow-pos w)))
+
+-- bits that lie within a part, as it is lent
+pub bits-part : (k len n s : ℕ) (xs : List ℕ) → s + k ≤ len * 8 → bitsAt k (take len (drop n xs)) s ≡ bitsAt k xs (n * 8 + s)
+unfolding bitsAt
+bits-part k len n s xs h =
+    rw (value-take 8 len (drop n xs), bits-low (valueOf 8 (drop n xs)) (len * 8) s k h, value-drop 8 n xs, shr-shr (valueOf 8 xs) (n * 8) s)
+
+-- bits of all that lies behind a byte
+pub bits-tail : (k n : ℕ) (xs : List ℕ) → n ≤ length xs → bitsAt k (take (length xs - n) (drop n xs)) 0 ≡ bitsAt k xs (n * 8)
+bits-tail k n xs h =
     let e : length (drop n xs) ≡ length xs - n = length-drop n xs in
     rw (← e, take-length (drop n xs), bits-drop k n 0 xs, add-zero (n * 8))
 
@@ -126,17 +156,7 @@ read-back w xs rest v l h =
 pub padding-zero : (w : ℕ) (xs : List ℕ) → valueOf 8 (packOf w xs) < 2 ^ (length xs * w)
 padding-zero w xs = rw (value-packed w xs) (value-lt w xs)
 
--- ---- bits within bits
-
-pub bits-lt : (number s k : ℕ) {x : ℕ} → x ≡ bits number s k → x < 2 ^ k
-bits-lt number s k e = rw e (mod-lt (number / 2 ^ s) (pow-pos k))
-
-pub bits-within : (number a k r j : ℕ) → r + j ≤ k → bits (bits number a k) r j ≡ bits number (a + r) j
-bits-within number a k r j h =
-    let s : k - (r + j) + j + r ≡ k = omega arith in
-    let q : number / 2 ^ a % 2 ^ (k - (r + j) + j + r) / 2 ^ r % 2 ^ j ≡ number / 2 ^ (a + r) % 2 ^ j =
-    rw (field (number / 2 ^ a) (k - (r + j) + j) r, mod-mod-pow, shr-shr) in
-    subst (λ (m : ℕ). number / 2 ^ a % 2 ^ m / 2 ^ r % 2 ^ j ≡ number / 2 ^ (a + r) % 2 ^ j) s q
+-- ---- bits that come in above
 
 -- j bits more, above k
 pub bits-more : (number s k j : ℕ) → bits number s (j + k) ≡ bits number (s + k) j * 2 ^ k + bits number s k

@@ -103,7 +103,9 @@ fn hash_all(keys: &[u8], n: usize, seed: u64, m: u32, kind: Kind, out: &mut [u32
 {
     let mut i: usize = 0;
     while i < n {
-        let v = hash_verts(le64(keys, i * 8), seed, m, kind);
+        let at = i * 8;
+        let end = at + 8;
+        let v = hash_verts(le64(&keys[at..end], 0), seed, m, kind);
         out[3 * i] = v.a;
         out[3 * i + 1] = v.b;
         out[3 * i + 2] = v.c;

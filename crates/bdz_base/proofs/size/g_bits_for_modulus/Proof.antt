@@ -35,7 +35,7 @@ sub-result : tie.Need-sub-result
 sub-result c = search needs
 
 sub-result-2 : tie.Need-sub-result-2
-sub-result-2 c = leading-le 32 (c .before .args .modulus - 1)
+sub-result-2 c = leading-le 32 _
 
 returns-2 : tie.Need-returns-2
 returns-2 c = large (c .before .args .modulus) (c .if1 .left)

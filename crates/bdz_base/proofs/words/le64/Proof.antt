@@ -1,5 +1,5 @@
 -- `bdz_base::words::le64` meets its contract. Assumes nothing.
-use Rattle.bdz_base.proofs.Digits.{bits-past, bits-part}
+use Rattle.bdz_base.proofs.Digits.{bits-past, bits-tail}
 use mathlib.Core.Path.{sym, _∙_}
 use native.Mathlib.Omega.{arith}
 use borrow.Author.Needs.{needs}
@@ -29,7 +29,7 @@ le64-across-requires c κs = search needs
 returns-2 : tie.Need-returns-2
 returns-2 c =
     let a = c .before .before .before .before .before .args in
-    c .le64-across .ensures ∙ bits-part 64 (a .at) (a .bytes .now) (omega arith)
+    c .le64-across .ensures ∙ bits-tail 64 (a .at) (a .bytes .now) (omega arith)
 
 sub-le64-inside : tie.Need-sub-le64-inside
 sub-le64-inside c = search needs
@@ -46,7 +46,7 @@ le64-inside-requires c κs = search needs
 returns-3 : tie.Need-returns-3
 returns-3 c =
     let a = c .before .before .before .before .before .args in
-    c .le64-inside .ensures ∙ bits-part 64 (a .at) (a .bytes .now) (omega arith)
+    c .le64-inside .ensures ∙ bits-tail 64 (a .at) (a .bytes .now) (omega arith)
 
 pub le64-spec : {M : Type 1} → statement M
 le64-spec =
