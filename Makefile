@@ -16,8 +16,7 @@ compare: library
 
 # the Rust's answers that `recorded` replays, made anew
 record: library
-	$(RUST) record > target/rust.txt
-	mv target/rust.txt crates/recorded/data/rust.txt
+	tools/record
 
 # times beside the Rust, in one run
 bench: library
