@@ -1,4 +1,5 @@
 pub mod Buffer
+pub mod Carry
 pub mod Mix
 pub mod Pack
 pub mod Pages

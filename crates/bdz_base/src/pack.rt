@@ -7,6 +7,7 @@ ghost use lib.ListN.{length, take, drop};
 ghost use Rattle.bdz_base.specs.Buffer.{over};
 ghost use Rattle.bdz_base.specs.Sizes.{tableBytes};
 ghost use Rattle.bdz_base.specs.Pack.{bytesOf, packOf, bitsAt, wordAt, Packed};
+ghost use Rattle.bdz_base.specs.Carry.{Gave};
 use super::refusal::ACCEPTED;
 use super::refusal::G_BITS;
 use super::refusal::NO_ROOM;
@@ -29,7 +30,7 @@ fn low_byte(x: u64) -> u8
 
 // A word comes in above, cut to the width.
 fn take_word(carry: Carry, word: u32, width: u32) -> Carry
-    requires { ⌜ (carry .acc < 2 ^ carry .bits) × (carry .bits < 8) × (width ≤ 32) ⌝ }
+    requires { ⌜ (carry .acc < 2 ^ carry .bits) × (carry .bits < 32) × (width ≤ 32) ⌝ }
     ensures { λ r. ⌜ (r .acc ≡ word % 2 ^ width * 2 ^ carry .bits + carry .acc) × (r .bits ≡ carry .bits + width) × (r .at ≡ carry .at) ⌝ }
 {
     let bits = carry.bits;
@@ -40,10 +41,39 @@ fn take_word(carry: Carry, word: u32, width: u32) -> Carry
     }
 }
 
-// The whole bytes go out below.
+// Four bytes go out below, which the compiler writes at once.
+fn give_four(carry: Carry, body: &mut [u8]) -> Carry
+    requires { ⌜ (32 ≤ carry .bits) × (carry .at + 4 ≤ length (now body)) ⌝ }
+    ensures { λ r. ⌜ Gave 4 carry (now (body .entry)) r (now (body .exit)) ⌝ }
+{
+    let acc = carry.acc;
+    let at = carry.at;
+    body[at] = low_byte(acc);
+    body[at + 1] = low_byte(acc >> 8);
+    body[at + 2] = low_byte(acc >> 16);
+    body[at + 3] = low_byte(acc >> 24);
+    Carry {
+        acc: acc >> 32,
+        bits: carry.bits - 32,
+        at: at + 4,
+    }
+}
+
+// The four bytes, once they are there.
+fn give_fours(carry: Carry, body: &mut [u8]) -> Carry
+    requires { ⌜ (carry .bits < 64) × (carry .at + carry .bits / 32 * 4 ≤ length (now body)) ⌝ }
+    ensures { λ r. ⌜ Gave (carry .bits / 32 * 4) carry (now (body .entry)) r (now (body .exit)) ⌝ }
+{
+    if carry.bits < 32 {
+        return carry;
+    }
+    give_four(carry, body)
+}
+
+// The whole bytes go out below, one by one.
 fn give_bytes(carry: Carry, body: &mut [u8]) -> Carry
     requires { ⌜ carry .at + carry .bits / 8 ≤ length (now body) ⌝ }
-    ensures { λ r. ⌜ (r .acc ≡ carry .acc / 2 ^ (carry .bits / 8 * 8)) × (r .bits ≡ carry .bits % 8) × (r .at ≡ carry .at + carry .bits / 8) × (now (body .exit) ≡ take (carry .at) (now (body .entry)) ++ (bytesOf (carry .bits / 8) (carry .acc) ++ drop (carry .at + carry .bits / 8) (now (body .entry)))) ⌝ }
+    ensures { λ r. ⌜ Gave (carry .bits / 8) carry (now (body .entry)) r (now (body .exit)) ⌝ }
 {
     let mut acc = carry.acc;
     let mut bits = carry.bits;
@@ -57,7 +87,21 @@ fn give_bytes(carry: Carry, body: &mut [u8]) -> Carry
     Carry { acc, bits, at }
 }
 
-// The words into the first bytes of the body. The last byte is padded with zeros.
+// What is left of the carry: whole bytes, and one that is padded with zeros.
+fn give_rest(carry: Carry, body: &mut [u8])
+    requires { ⌜ carry .at + (carry .bits + 7) / 8 ≤ length (now body) ⌝ }
+    ensures { λ r. ⌜ now (body .exit) ≡ take (carry .at) (now (body .entry)) ++ (bytesOf ((carry .bits + 7) / 8) (carry .acc) ++ drop (carry .at + (carry .bits + 7) / 8) (now (body .entry))) ⌝ }
+{
+    let left = give_bytes(carry, body);
+    let acc = left.acc;
+    let bits = left.bits;
+    let at = left.at;
+    if bits > 0 {
+        body[at] = low_byte(acc);
+    }
+}
+
+// The words into the first bytes of the body.
 fn pack_words(g: &[u32], width: u32, body: &mut [u8])
     requires { ⌜ (width ≤ 32) × (tableBytes width (length (now g)) ≤ length (now body)) ⌝ }
     ensures { λ r. ⌜ now (body .exit) ≡ over (packOf width (now (g .entry))) (now (body .entry)) ⌝ }
@@ -69,15 +113,10 @@ fn pack_words(g: &[u32], width: u32, body: &mut [u8])
     };
     let mut i: usize = 0;
     while i < g.len() {
-        carry = give_bytes(take_word(carry, g[i], width), body);
+        carry = give_fours(take_word(carry, g[i], width), body);
         i += 1;
     }
-    let acc = carry.acc;
-    let bits = carry.bits;
-    let at = carry.at;
-    if bits > 0 {
-        body[at] = low_byte(acc);
-    }
+    give_rest(carry, body);
 }
 
 // Whether so many words take more than so many bytes. It never multiplies what it has not bounded.

@@ -8,8 +8,8 @@ use lib.Pow.{pow-mono}
 use Rattle.bdz_base.proofs.pack.take_word.Statement.{statement}
 use Rattle.bdz_base.proofs.pack.take_word.Tie as tie
 
--- 32 bits have room above fewer than 8
-above : (x k : ℕ) → x < 2 ^ 32 → k < 8 → x < 2 ^ (64 - k)
+-- 32 bits have room above fewer than 32
+above : (x k : ℕ) → x < 2 ^ 32 → k < 32 → x < 2 ^ (64 - k)
 above x k h l = lt-of-lt-of-le h (pow-mono {i = 32} {j = 64 - k} (omega arith))
 
 low-bits-requires : tie.Need-low-bits-requires
