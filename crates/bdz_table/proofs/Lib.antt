@@ -1,0 +1,16 @@
+pub mod AddKey
+pub mod Answers
+pub mod Assigned
+pub mod Bits
+pub mod Core
+pub mod Counting
+pub mod Fold
+pub mod Has
+pub mod Judging
+pub mod Leaving
+pub mod Mapped
+pub mod Order
+pub mod Queue
+pub mod Tries
+pub mod Turning
+pub mod Zeroing

@@ -1,0 +1,6 @@
+// Tables: peeling, both assigns, and the builds.
+pub mod occ;
+pub mod peel;
+pub mod scratch;
+pub mod seeds;
+pub mod seen;
