@@ -38,7 +38,7 @@ unfolding has
 three-cases v a b c t =
     ⊎-elim (λ r. inl r) (λ u. ⊎-elim (λ r. inr (inl r)) (λ w. ⊎-elim (λ r. inr (inr r)) (λ z. clash z refl) (has-cons v c [] w)) (has-cons v b (c ∷ []) u)) (has-cons v a (b ∷ c ∷ []) t)
 
-three-inside : (m u : ℕ) {v : Verts} → Below m v → has u (listed v) ≡ true → u < m
+pub three-inside : (m u : ℕ) {v : Verts} → Below m v → has u (listed v) ≡ true → u < m
 three-inside m u {v} b t =
     ⊎-elim (λ (r : u ≡ v .a). omega (arith, b .a-below)) (λ w. ⊎-elim (λ (r : u ≡ v .b). omega (arith, b .b-below)) (λ (r : u ≡ v .c). omega (arith, b .c-below)) w) (three-cases u (v .a) (v .b) (v .c) t)
 

@@ -9,8 +9,10 @@ pub mod Has
 pub mod Judging
 pub mod Leaving
 pub mod Mapped
+pub mod Noting
 pub mod Order
 pub mod Queue
 pub mod Tries
 pub mod Turning
+pub mod Words
 pub mod Zeroing

@@ -1,5 +1,7 @@
 -- The words of the table, assigned from the newest cut to the oldest: "Assign in reverse". Assumes nothing.
-use Prim.Native.Nat.{ℕ, _+_, _-_, _/_, _%_}
+use Prim.Native.Nat.{ℕ, _+_, _-_, _*_, _/_, _%_}
+use mathlib.Core.Bool.{cond}
+use lib.Dec.{ltb}
 use mathlib.Core.Path.{_≡_}
 use mathlib.Core.List.{List, [], _∷_}
 use lib.ListN.{getD, set}
@@ -22,8 +24,8 @@ assign vs modulus val (p ∷ older) g =
     assign vs modulus val older (set g (p .at) (wordFor modulus (val p) (sumAt g (vs (p .key)))))
 
 -- "i the vertex's part": which third of m it lies in
-abbrev pub partOf : ℕ → ℕ → ℕ
-partOf m v = v / (m / 3)
+unfoldable pub partOf : ℕ → ℕ → ℕ
+partOf m v = cond (ltb v (m / 3)) 0 (cond (ltb v (2 * (m / 3))) 1 2)
 
 -- every cut's key comes to its value
 unfoldable pub Sums : (ℕ → List ℕ) → ℕ → (Cut → ℕ) → List ℕ → List Cut → Type 0

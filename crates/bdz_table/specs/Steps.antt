@@ -9,12 +9,14 @@ use lib.Bits.{bitXor}
 use lib.ListN.{length, getD, set, take, drop}
 use Rattle.bdz_base.specs.Mix.{seedAt}
 use Rattle.bdz_base.specs.declared.verts.Kind.{Kind}
+use Rattle.bdz_base.specs.declared.verts.Kind.the-variants.{Compact}
 use Rattle.bdz_table.specs.Graph.{has, Distinct, onlyIf, degree, xorAt, Crowded, Peelable}
-use Rattle.bdz_table.specs.Peel.{Cut, keepIf, ones, upTo, peel}
+use Rattle.bdz_table.specs.Peel.{Cut, atsOf, keepIf, ones, upTo, peel}
 use Rattle.bdz_table.specs.Keys.{graphOf}
 use Rattle.bdz_table.specs.Seeds.{firstSeed}
 use Rattle.bdz_table.specs.declared.seeds.Found.{Found}
-use Rattle.bdz_table.specs.Assign.{sumAt, wordFor}
+use Rattle.bdz_table.specs.Assign.{sumAt, wordFor, assign, partOf}
+use Rattle.bdz_table.specs.Occupancy.{occupancyOf}
 
 -- the vertices us are different, and the two tables reach over them
 pub record Places (us ds xs : List ℕ) : Type 0 where
@@ -165,3 +167,21 @@ pub record Ordered (n m M : ℕ) (val : Cut → ℕ) (edges verts ms g : List �
   pub vertices : (i : ℕ) → i < n → getD verts i 0 < m
   pub values : (i : ℕ) → i < n → val (record { key = getD edges i 0; at = getD verts i 0 }) < M
   pub marked : Marked M ms g
+
+-- ---- from the order that the peeler left to an order of its own
+
+-- the order's vertices name words of xs
+pub record Notable (xs q edges verts : List ℕ) : Type 0 where
+  pub same : length verts ≡ length edges
+  pub fits : length edges ≤ length q
+  pub inside : (i : ℕ) → i < length edges → getD q i 0 < length xs
+
+-- the cut vertices are the front of the queue, and the xor word of a cut vertex is its key
+pub record Noted (xs q edges verts : List ℕ) (n : ℕ) : Type 0 where
+  pub edge : (i : ℕ) → i < n → getD edges i 0 ≡ getD xs (getD q i 0) 0
+  pub vertex : (i : ℕ) → i < n → getD verts i 0 ≡ getD q i 0
+
+-- the compact words, and the occupancy of the cut vertices
+pub record Compacted (keys : List ℕ) (seed m : ℕ) (edges verts g₀ g occ : List ℕ) : Type 0 where
+  pub words : g ≡ assign (graphOf Compact keys seed m) 3 (λ p. partOf m (p .at)) (orderOf edges verts (length keys)) g₀
+  pub occupied : occ ≡ occupancyOf m (atsOf (orderOf edges verts (length keys)))

@@ -1,4 +1,5 @@
 // Tables: peeling, both assigns, and the builds.
+pub mod assign;
 pub mod occ;
 pub mod peel;
 pub mod scratch;
