@@ -9,9 +9,10 @@ pub assigned-more : (n : ℕ) → n + 3 ≤ assignedSize n
 unfolding assignedSize
 assigned-more n = omega arith
 
-pub assigned-fits : (n : ℕ) → n ≤ 2 ^ 30 → assignedSize n ≤ 2 ^ 31
+-- for up to 2^30 keys the size fits 31 bits, raised to a multiple of 3 too
+pub assigned-room : (n : ℕ) → n ≤ 2 ^ 30 → assignedSize n + 3 ≤ 2 ^ 31
 unfolding assignedSize
-assigned-fits n h = omega arith
+assigned-room n h = omega arith
 
 -- for every 32-bit n the size fits 64 bits
 pub assigned-wide : (n : ℕ) → n < 2 ^ 32 → assignedSize n < 2 ^ 33

@@ -9,9 +9,12 @@ pub mod Has
 pub mod Judging
 pub mod Leaving
 pub mod Mapped
+pub mod NeedLaws
 pub mod Noting
 pub mod Order
+pub mod Ordering
 pub mod Queue
+pub mod Runs
 pub mod Tries
 pub mod Turning
 pub mod Words

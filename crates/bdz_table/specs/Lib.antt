@@ -1,4 +1,5 @@
 pub mod Assign
+pub mod Build
 pub mod Graph
 pub mod Keys
 pub mod Occupancy

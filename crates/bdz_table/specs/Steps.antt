@@ -1,12 +1,12 @@
 -- What the peeler's own steps promise one another of the lent buffers. No public promise cites it. Assumes nothing.
 use Prim.Native.Nat.{ℕ, zero, suc, _+_, _/_, _%_, _^_, _<_, _≤_}
 use mathlib.Core.Path.{_≡_}
-use mathlib.Core.Bool.{Bool, true, false}
+use mathlib.Core.Bool.{Bool, true, false, cond}
 use mathlib.Core.Logic.{_⊎_}
 use mathlib.Core.List.{List, [], _∷_, _++_}
 use lib.Dec.{eqb}
 use lib.Bits.{bitXor}
-use lib.ListN.{length, getD, set, take, drop}
+use lib.ListN.{length, getD, set, take, drop, replicate}
 use Rattle.bdz_base.specs.Mix.{seedAt}
 use Rattle.bdz_base.specs.declared.verts.Kind.{Kind}
 use Rattle.bdz_base.specs.declared.verts.Kind.the-variants.{Compact}
@@ -17,6 +17,8 @@ use Rattle.bdz_table.specs.Seeds.{firstSeed}
 use Rattle.bdz_table.specs.declared.seeds.Found.{Found}
 use Rattle.bdz_table.specs.Assign.{sumAt, wordFor, assign, partOf}
 use Rattle.bdz_table.specs.Occupancy.{occupancyOf}
+use Rattle.bdz_table.specs.Build.{verticesFor, lateNo, seedFor}
+use Rattle.bdz_table.specs.declared.build.Ran.{Ran}
 
 -- the vertices us are different, and the two tables reach over them
 pub record Places (us ds xs : List ℕ) : Type 0 where
@@ -185,3 +187,57 @@ pub record Noted (xs q edges verts : List ℕ) (n : ℕ) : Type 0 where
 pub record Compacted (keys : List ℕ) (seed m : ℕ) (edges verts g₀ g occ : List ℕ) : Type 0 where
   pub words : g ≡ assign (graphOf Compact keys seed m) 3 (λ p. partOf m (p .at)) (orderOf edges verts (length keys)) g₀
   pub occupied : occ ≡ occupancyOf m (atsOf (orderOf edges verts (length keys)))
+
+-- ---- the builds
+
+-- lent buffers for n keys on m vertices
+pub record Orderable (n m : ℕ) (ds xs q edges verts : List ℕ) : Type 0 where
+  pub lent : Lent n m ds xs q
+  pub longe : length edges ≡ n
+  pub longv : length verts ≡ n
+
+-- the first seed that works, with the order of the keys at it, or none
+pub record KeysOrdered (kind : Kind) (keys : List ℕ) (m : ℕ) (edges verts : List ℕ) (r : Found) : Type 0 where
+  pub tries-is : r .tries ≡ firstSeed kind keys m
+  pub seed-is : r .tries < 256 → r .seed ≡ seedAt (r .tries)
+  pub order : r .tries < 256 → orderOf edges verts (length keys) ≡ peel (graphOf kind keys (seedAt (r .tries)) m) (length keys) m .done
+  pub keys-inside : r .tries < 256 → (i : ℕ) → i < length keys → getD edges i 0 < length keys
+  pub vertices-inside : r .tries < 256 → (i : ℕ) → i < length keys → getD verts i 0 < m
+
+-- every scratch buffer ends as zeros
+pub record Cleared (ds xs q edges verts ms ds′ xs′ q′ edges′ verts′ ms′ : List ℕ) : Type 0 where
+  pub degrees : ds′ ≡ replicate (length ds) 0
+  pub xors : xs′ ≡ replicate (length xs) 0
+  pub queue : q′ ≡ replicate (length q) 0
+  pub edge-list : edges′ ≡ replicate (length edges) 0
+  pub vertex-list : verts′ ≡ replicate (length verts) 0
+  pub marks : ms′ ≡ replicate (length ms) 0
+
+-- buffers of just the length that two keys or more need
+pub record Many (kind : Kind) (keys : List ℕ) (m : ℕ) (table ds xs q edges verts ms : List ℕ) : Type 0 where
+  pub count : 2 ≤ length keys
+  pub is : m ≡ verticesFor kind (length keys)
+  pub longt : length table ≡ m
+  pub longm : length ms ≡ m
+  pub orderable : Orderable (length keys) m ds xs q edges verts
+
+-- a value below the modulus for each of n keys
+pub record Valued (n modulus : ℕ) (values : List ℕ) : Type 0 where
+  pub long : length values ≡ n
+  pub limit : modulus ≤ 2 ^ 30
+  pub below : (i : ℕ) → i < n → getD values i 0 < modulus
+
+-- what a run came to: its number, its seed, and a buffer that is new if it was accepted
+pub record RanTo (kind : Kind) (keys : List ℕ) (verdict : ℕ) (r : Ran) : Type 0 where
+  pub no-is : r .no ≡ lateNo kind keys verdict
+  pub seed-is : r .no ≡ 0 → r .seed ≡ seedFor kind keys
+
+abbrev pub newIf : ℕ → List ℕ → List ℕ → List ℕ
+newIf number new old = cond (eqb number 0) new old
+
+-- buffers of just the length that the keys need
+pub record Shaped (kind : Kind) (keys : List ℕ) (m : ℕ) (table ds xs q edges verts ms : List ℕ) : Type 0 where
+  pub some : 1 ≤ length keys
+  pub is : m ≡ verticesFor kind (length keys)
+  pub longt : length table ≡ m
+  pub many : 2 ≤ length keys → Many kind keys m table ds xs q edges verts ms

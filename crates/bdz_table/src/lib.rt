@@ -1,5 +1,8 @@
 // Tables: peeling, both assigns, and the builds.
 pub mod assign;
+pub mod build;
+pub mod index;
+pub mod needs;
 pub mod occ;
 pub mod peel;
 pub mod scratch;

@@ -1,0 +1,181 @@
+-- The builds: every refusal in document 01's order, the answer, and what each lent buffer then holds. Assumes nothing.
+use mathlib.Core.Path.{_≡_}
+use mathlib.Core.Bool.{Bool, true, false, not, cond, _&&_, _||_}
+use mathlib.Core.List.{List, [], _∷_, _++_}
+use Prim.Native.Nat.{ℕ, _+_, _^_}
+use lib.Dec.{eqb, ltb}
+use lib.ListN.{length, getD, replicate}
+use Rattle.bdz_base.specs.Buffer.{over}
+use Rattle.bdz_base.specs.Mix.{seedAt}
+use Rattle.bdz_base.specs.Refusal.{refuse, accept}
+use Rattle.bdz_base.specs.Sizes.{assignedSize, compactSize, occupancyBytes}
+use Rattle.bdz_base.specs.Width.{widthOf}
+use Rattle.bdz_base.specs.declared.verts.Kind.{Kind}
+use Rattle.bdz_base.specs.declared.verts.Kind.the-variants.{Assigned, Compact}
+use Rattle.bdz_table.specs.Assign.{assign, partOf}
+use Rattle.bdz_table.specs.Keys.{graphOf}
+use Rattle.bdz_table.specs.Occupancy.{occupancyOf}
+use Rattle.bdz_table.specs.Peel.{Cut, atsOf, peel}
+use Rattle.bdz_table.specs.Seeds.{firstSeed}
+use Rattle.bdz_table.specs.Values.{valuesNo}
+use Rattle.bdz_table.specs.declared.index.Index.{Index}
+use Rattle.bdz_table.specs.declared.index.Built.{Built}
+use Rattle.bdz_table.specs.declared.index.Needs.{Needs}
+use Rattle.bdz_table.specs.declared.needs.Lengths.{Lengths}
+
+-- ---- sizes
+
+-- "for n of 2 or more"
+abbrev pub sizeFor : Kind → ℕ → ℕ
+sizeFor Assigned n = assignedSize n
+sizeFor Compact n = compactSize n
+
+-- "n = 0: m 0 .. n = 1: m 1"
+unfoldable pub verticesFor : Kind → ℕ → ℕ
+verticesFor kind n = cond (eqb n 0) 0 (cond (eqb n 1) 1 (sizeFor kind n))
+
+-- "Needs for n of 2 or more .. For n = 1 only the table, seen values and occupancy are needed"; an empty build needs nothing
+abbrev pub ifMany : ℕ → ℕ → ℕ
+ifMany n need = cond (ltb n 2) 0 need
+
+abbrev pub occupancyNeed : Kind → ℕ → ℕ
+occupancyNeed Assigned m = 0
+occupancyNeed Compact m = occupancyBytes m
+
+abbrev pub seenNeed : Kind → ℕ → ℕ → ℕ
+seenNeed Assigned n modulus = cond (eqb n 0) 0 (occupancyBytes modulus)
+seenNeed Compact n modulus = 0
+
+unfoldable pub needsOf : Kind → ℕ → ℕ → Needs
+needsOf kind n modulus =
+    record {
+      table = verticesFor kind n;
+      vertices = ifMany n (verticesFor kind n);
+      order = ifMany n n;
+      occupancy = occupancyNeed kind (verticesFor kind n);
+      seen = seenNeed kind n modulus;
+    }
+
+-- ---- refusals
+
+-- 14 "a lent buffer is shorter than its stated need"
+unfoldable pub lacksRoom : Needs → Lengths → Bool
+lacksRoom need lent =
+    ltb (lent .table) (need .table)
+    || (ltb (lent .degrees) (need .vertices)
+    || (ltb (lent .xors) (need .vertices)
+    || (ltb (lent .queue) (need .vertices)
+    || (ltb (lent .edges) (need .order)
+    || (ltb (lent .verts) (need .order)
+    || (ltb (lent .marks) (need .vertices)
+    || (ltb (lent .occupancy) (need .occupancy)
+    || ltb (lent .seen) (need .seen))))))))
+
+-- "Assigned build: 1; no keys is accepted with any modulus; 2; 13; 14": the checks before anything is touched
+unfoldable pub assignedEarly : ℕ → ℕ → ℕ → Lengths → ℕ
+assignedEarly n values modulus lent =
+    refuse 1 (not (eqb n values))
+    (accept (eqb n 0)
+    (refuse 2 (eqb modulus 0)
+    (refuse 13 (ltb (2 ^ 30) n || ltb (2 ^ 30) modulus)
+    (refuse 14 (lacksRoom (needsOf Assigned n modulus) lent)
+    0))))
+
+-- "Compact build: no keys accepted; 13; 14"
+unfoldable pub compactEarly : ℕ → Lengths → ℕ
+compactEarly n lent =
+    accept (eqb n 0)
+    (refuse 13 (ltb (2 ^ 30) n)
+    (refuse 14 (lacksRoom (needsOf Compact n n) lent)
+    0))
+
+-- "Once check 14 is passed": the build has begun. "Refusals before that, and an empty build, touch nothing."
+abbrev pub begun : ℕ → ℕ → Bool
+begun n early = eqb early 0 && not (eqb n 0)
+
+-- "5": with two keys or more, none of the 256 seeds works
+unfoldable pub stuck : Kind → List ℕ → Bool
+stuck kind keys = ltb 1 (length keys) && eqb (firstSeed kind keys (verticesFor kind (length keys))) 256
+
+-- "then values first to last, 3 before 4 for each; 5"; a compact build has no values to judge
+unfoldable pub lateNo : Kind → List ℕ → ℕ → ℕ
+lateNo kind keys verdict = cond (eqb verdict 0) (refuse 5 (stuck kind keys) 0) verdict
+
+abbrev pub buildNo : Kind → List ℕ → ℕ → ℕ → ℕ
+buildNo kind keys early verdict = cond (begun (length keys) early) (lateNo kind keys verdict) early
+
+-- ---- the answer
+
+-- "n = 0: .. seed 0"; "n = 1: .. seed 1"; else "the first that works is kept"
+unfoldable pub seedFor : Kind → List ℕ → ℕ
+seedFor kind keys =
+    cond (eqb (length keys) 0) 0
+    (cond (eqb (length keys) 1) 1
+    (seedAt (firstSeed kind keys (verticesFor kind (length keys)))))
+
+-- the width of the table's words: from the modulus, and 2 in a compact index
+abbrev pub widthFor : Kind → ℕ → ℕ
+widthFor Assigned modulus = widthOf modulus
+widthFor Compact modulus = 2
+
+unfoldable pub indexFor : Kind → List ℕ → ℕ → Index
+indexFor kind keys modulus =
+    record {
+      kind = kind;
+      n = length keys;
+      m = verticesFor kind (length keys);
+      seed = seedFor kind keys;
+      modulus = modulus;
+      width = widthFor kind modulus;
+    }
+
+-- "A refused call answers its number, with every other field zero"
+abbrev pub refusedBuild : ℕ → Built
+refusedBuild number = record { no = number; index = record { kind = Assigned; n = 0; m = 0; seed = 0; modulus = 0; width = 0 } }
+
+abbrev pub builtFor : ℕ → Index → Built
+builtFor number index = cond (eqb number 0) (record { no = 0; index = index }) (refusedBuild number)
+
+-- ---- the table and the occupancy
+
+-- the cuts of the seed that is kept
+unfoldable pub cutsFor : Kind → List ℕ → List Cut
+cutsFor kind keys =
+    let m = verticesFor kind (length keys) in
+    peel (graphOf kind keys (seedFor kind keys) m) (length keys) m .done
+
+-- for two keys or more
+unfoldable pub wordsFor : Kind → List ℕ → ℕ → (Cut → ℕ) → List ℕ
+wordsFor kind keys modulus val =
+    let m = verticesFor kind (length keys) in
+    assign (graphOf kind keys (seedFor kind keys) m) modulus val (cutsFor kind keys) (replicate m 0)
+
+-- "n = 1: .. table [value] or [0]"
+unfoldable pub assignedTable : List ℕ → List ℕ → ℕ → List ℕ
+assignedTable keys values modulus =
+    cond (eqb (length keys) 0) []
+    (cond (eqb (length keys) 1) (getD values 0 0 ∷ [])
+    (wordsFor Assigned keys modulus (λ p. getD values (p .key) 0)))
+
+unfoldable pub compactTable : List ℕ → List ℕ
+compactTable keys =
+    cond (eqb (length keys) 0) []
+    (cond (eqb (length keys) 1) (0 ∷ [])
+    (wordsFor Compact keys 3 (λ p. partOf (verticesFor Compact (length keys)) (p .at))))
+
+-- "n = 1: .. compact occupancy bit 0 set"
+unfoldable pub compactOccupancy : List ℕ → List ℕ
+compactOccupancy keys =
+    cond (eqb (length keys) 0) []
+    (cond (eqb (length keys) 1) (1 ∷ [])
+    (occupancyOf (verticesFor Compact (length keys)) (atsOf (cutsFor Compact keys))))
+
+-- ---- the lent buffers afterwards
+
+-- "After a refused build, table and occupancy are unchanged"
+abbrev pub written : ℕ → List ℕ → List ℕ → List ℕ
+written number new old = cond (eqb number 0) (over new old) old
+
+-- "Once check 14 is passed, the needed part of each scratch buffer ends as zeros, accepted or not"
+abbrev pub cleared : Bool → ℕ → List ℕ → List ℕ
+cleared begun need old = cond begun (over (replicate need 0) old) old
