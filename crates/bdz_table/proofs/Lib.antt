@@ -1,6 +1,7 @@
 pub mod AddKey
 pub mod Answers
 pub mod Assigned
+pub mod Begun
 pub mod Bits
 pub mod Core
 pub mod Counting

@@ -15,7 +15,7 @@ use Rattle.bdz_table.specs.Occupancy.{occupancyOf}
 use Rattle.bdz_table.specs.Keys.{graphOf}
 use Rattle.bdz_table.specs.Peel.{Cut, atsOf}
 use Rattle.bdz_table.specs.Seeds.{worksAt, firstSeed}
-use Rattle.bdz_table.specs.Steps.{orderOf, Marked, Ordered, KeysOrdered, RanTo, newIf}
+use Rattle.bdz_table.specs.Steps.{orderOf, Marked, Ordered, KeysOrdered, RanTo, newIf, Cleared}
 use Rattle.bdz_table.specs.declared.seeds.Found.{Found}
 use Rattle.bdz_table.proofs.Tries.{first-is}
 use Rattle.bdz_table.proofs.Zeroing.{replicate-zero}
@@ -123,3 +123,15 @@ many-compact-table keys m h e = rw (ne-eqb (length keys) 0 (omega arith), ne-eqb
 pub many-occupancy : (keys : List ℕ) (m : ℕ) → 2 ≤ length keys → m ≡ verticesFor Compact (length keys) → compactOccupancy keys ≡ occupancyOf m (atsOf (cutsFor Compact keys))
 unfolding compactOccupancy
 many-occupancy keys m h e = rw (ne-eqb (length keys) 0 (omega arith), ne-eqb (length keys) 1 (omega arith), e)
+
+-- what was cleared is as long as it was before the run
+pub cleared-before : {ds xs q edges verts ms ds₁ xs₁ q₁ edges₁ verts₁ ms₁ ds′ xs′ q′ edges′ verts′ ms′ : List ℕ} → Cleared ds₁ xs₁ q₁ edges₁ verts₁ ms₁ ds′ xs′ q′ edges′ verts′ ms′ → length ds₁ ≡ length ds → length xs₁ ≡ length xs → length q₁ ≡ length q → length edges₁ ≡ length edges → length verts₁ ≡ length verts → length ms₁ ≡ length ms → Cleared ds xs q edges verts ms ds′ xs′ q′ edges′ verts′ ms′
+cleared-before c a b d e f g =
+    record {
+      degrees = c .degrees ∙ ap (λ (k : ℕ). replicate k 0) a;
+      xors = c .xors ∙ ap (λ (k : ℕ). replicate k 0) b;
+      queue = c .queue ∙ ap (λ (k : ℕ). replicate k 0) d;
+      edge-list = c .edge-list ∙ ap (λ (k : ℕ). replicate k 0) e;
+      vertex-list = c .vertex-list ∙ ap (λ (k : ℕ). replicate k 0) f;
+      marks = c .marks ∙ ap (λ (k : ℕ). replicate k 0) g;
+    }

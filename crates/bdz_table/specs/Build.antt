@@ -179,3 +179,48 @@ written number new old = cond (eqb number 0) (over new old) old
 -- "Once check 14 is passed, the needed part of each scratch buffer ends as zeros, accepted or not"
 abbrev pub cleared : Bool → ℕ → List ℕ → List ℕ
 cleared begun need old = cond begun (over (replicate need 0) old) old
+
+-- ---- the promises
+
+abbrev pub lengthsOf : List ℕ → List ℕ → List ℕ → List ℕ → List ℕ → List ℕ → List ℕ → List ℕ → List ℕ → Lengths
+lengthsOf table degrees xors queue edges verts marks occupancy seen =
+    record {
+      table = length table;
+      degrees = length degrees;
+      xors = length xors;
+      queue = length queue;
+      edges = length edges;
+      verts = length verts;
+      marks = length marks;
+      occupancy = length occupancy;
+      seen = length seen;
+    }
+
+-- what a build answers, and what its lent buffers then hold, from its number and whether it has begun
+pub record BuiltTo (number : ℕ) (go : Bool) (index : Index) (need : Needs) (words table degrees xors queue edges verts marks : List ℕ) (r : Built) (table′ degrees′ xors′ queue′ edges′ verts′ marks′ : List ℕ) : Type 0 where
+  pub answer-is : r ≡ builtFor number index
+  pub table-is : table′ ≡ written number words table
+  pub degrees-are : degrees′ ≡ cleared go (need .vertices) degrees
+  pub xors-are : xors′ ≡ cleared go (need .vertices) xors
+  pub queue-is : queue′ ≡ cleared go (need .vertices) queue
+  pub edges-are : edges′ ≡ cleared go (need .order) edges
+  pub verts-are : verts′ ≡ cleared go (need .order) verts
+  pub marks-are : marks′ ≡ cleared go (need .vertices) marks
+
+-- the assigned build's whole promise, from the number of its early checks
+pub record AssignedFrom (early : ℕ) (keys values : List ℕ) (modulus : ℕ) (table degrees xors queue edges verts marks seen : List ℕ) (r : Built) (table′ degrees′ xors′ queue′ edges′ verts′ marks′ seen′ : List ℕ) : Type 0 where
+  pub to : BuiltTo (buildNo Assigned keys early (valuesNo modulus [] values)) (begun (length keys) early) (indexFor Assigned keys modulus) (needsOf Assigned (length keys) modulus) (assignedTable keys values modulus) table degrees xors queue edges verts marks r table′ degrees′ xors′ queue′ edges′ verts′ marks′
+  pub seen-is : seen′ ≡ cleared (begun (length keys) early) (needsOf Assigned (length keys) modulus .seen) seen
+
+abbrev pub BuiltAssigned : List ℕ → List ℕ → ℕ → List ℕ → List ℕ → List ℕ → List ℕ → List ℕ → List ℕ → List ℕ → List ℕ → Built → List ℕ → List ℕ → List ℕ → List ℕ → List ℕ → List ℕ → List ℕ → List ℕ → Type 0
+BuiltAssigned keys values modulus table degrees xors queue edges verts marks seen =
+    AssignedFrom (assignedEarly (length keys) (length values) modulus (lengthsOf table degrees xors queue edges verts marks [] seen)) keys values modulus table degrees xors queue edges verts marks seen
+
+-- the compact build's
+pub record CompactFrom (early : ℕ) (keys table occupancy degrees xors queue edges verts marks : List ℕ) (r : Built) (table′ occupancy′ degrees′ xors′ queue′ edges′ verts′ marks′ : List ℕ) : Type 0 where
+  pub to : BuiltTo (buildNo Compact keys early 0) (begun (length keys) early) (indexFor Compact keys (length keys)) (needsOf Compact (length keys) (length keys)) (compactTable keys) table degrees xors queue edges verts marks r table′ degrees′ xors′ queue′ edges′ verts′ marks′
+  pub occupancy-is : occupancy′ ≡ written (buildNo Compact keys early 0) (compactOccupancy keys) occupancy
+
+abbrev pub BuiltCompact : List ℕ → List ℕ → List ℕ → List ℕ → List ℕ → List ℕ → List ℕ → List ℕ → List ℕ → Built → List ℕ → List ℕ → List ℕ → List ℕ → List ℕ → List ℕ → List ℕ → List ℕ → Type 0
+BuiltCompact keys table occupancy degrees xors queue edges verts marks =
+    CompactFrom (compactEarly (length keys) (lengthsOf table degrees xors queue edges verts marks occupancy [])) keys table occupancy degrees xors queue edges verts marks

@@ -6,7 +6,7 @@ ghost use lib.ListN.{length, getD, replicate};
 ghost use Rattle.bdz_base.specs.Sizes.{occupancyBytes};
 ghost use Rattle.bdz_base.specs.declared.verts.Kind.the-variants.{Assigned, Compact};
 ghost use Rattle.bdz_table.specs.Assign.{partOf};
-ghost use Rattle.bdz_table.specs.Build.{wordsFor, cutsFor, assignedTable, compactTable, compactOccupancy, widthFor, builtFor, refusedBuild};
+ghost use Rattle.bdz_table.specs.Build.{wordsFor, cutsFor, assignedTable, compactTable, compactOccupancy, widthFor, builtFor, refusedBuild, assignedEarly, compactEarly, lengthsOf, BuiltAssigned, BuiltCompact};
 ghost use Rattle.bdz_table.specs.Occupancy.{occupancyOf};
 ghost use Rattle.bdz_table.specs.Peel.{atsOf};
 ghost use Rattle.bdz_table.specs.Values.{valuesNo};
@@ -16,6 +16,7 @@ use super::assign::assign_g;
 use super::assign::note_order;
 use super::index::Built;
 use super::index::Index;
+use super::needs::needs;
 use super::scratch::zero8;
 use super::scratch::zero32;
 use super::seeds::Found;
@@ -277,4 +278,159 @@ fn finish(kind: Kind, n: u32, m: u32, modulus: u32, no: u32, seed: u64) -> Built
             width: width_for(kind, modulus),
         },
     }
+}
+
+// The same with the scratch left as zeros.
+fn run_assigned(
+    keys: &[u64],
+    values: &[u32],
+    modulus: u32,
+    verdict: u32,
+    m: u32,
+    table: &mut [u32],
+    degrees: &mut [u8],
+    xors: &mut [u32],
+    queue: &mut [u32],
+    edges: &mut [u32],
+    verts: &mut [u32],
+    marks: &mut [u8],
+) -> Ran
+    requires { ⌜ Shaped Assigned (now keys) m (now table) (now degrees) (now xors) (now queue) (now edges) (now verts) (now marks) ⌝ }
+    requires { ⌜ (length (now values) ≡ length (now keys)) × (verdict ≡ 0 → Valued (length (now keys)) modulus (now values)) ⌝ }
+    ensures { λ r. ⌜ RanTo Assigned (now (keys .entry)) verdict r ⌝ }
+    ensures { λ r. ⌜ now (table .exit) ≡ newIf (r .no) (assignedTable (now (keys .entry)) (now (values .entry)) modulus) (now (table .entry)) ⌝ }
+    ensures { λ r. ⌜ Cleared (now (degrees .entry)) (now (xors .entry)) (now (queue .entry)) (now (edges .entry)) (now (verts .entry)) (now (marks .entry)) (now (degrees .exit)) (now (xors .exit)) (now (queue .exit)) (now (edges .exit)) (now (verts .exit)) (now (marks .exit)) ⌝ }
+{
+    let ran = work_assigned(
+        keys,
+        values,
+        modulus,
+        verdict,
+        m,
+        table,
+        degrees,
+        xors,
+        queue,
+        edges,
+        verts,
+        marks,
+    );
+    clear_scratch(degrees, xors, queue, edges, verts, marks);
+    ran
+}
+
+fn run_compact(
+    keys: &[u64],
+    m: u32,
+    table: &mut [u32],
+    occupancy: &mut [u8],
+    degrees: &mut [u8],
+    xors: &mut [u32],
+    queue: &mut [u32],
+    edges: &mut [u32],
+    verts: &mut [u32],
+    marks: &mut [u8],
+) -> Ran
+    requires { ⌜ Shaped Compact (now keys) m (now table) (now degrees) (now xors) (now queue) (now edges) (now verts) (now marks) ⌝ }
+    requires { ⌜ length (now occupancy) ≡ occupancyBytes m ⌝ }
+    ensures { λ r. ⌜ RanTo Compact (now (keys .entry)) 0 r ⌝ }
+    ensures { λ r. ⌜ now (table .exit) ≡ newIf (r .no) (compactTable (now (keys .entry))) (now (table .entry)) ⌝ }
+    ensures { λ r. ⌜ now (occupancy .exit) ≡ newIf (r .no) (compactOccupancy (now (keys .entry))) (now (occupancy .entry)) ⌝ }
+    ensures { λ r. ⌜ Cleared (now (degrees .entry)) (now (xors .entry)) (now (queue .entry)) (now (edges .entry)) (now (verts .entry)) (now (marks .entry)) (now (degrees .exit)) (now (xors .exit)) (now (queue .exit)) (now (edges .exit)) (now (verts .exit)) (now (marks .exit)) ⌝ }
+{
+    let ran = work_compact(
+        keys,
+        m,
+        table,
+        occupancy,
+        degrees,
+        xors,
+        queue,
+        edges,
+        verts,
+        marks,
+    );
+    clear_scratch(degrees, xors, queue, edges, verts, marks);
+    ran
+}
+
+// An assigned build that has passed its early checks and has a key.
+fn begin_assigned(
+    keys: &[u64],
+    values: &[u32],
+    modulus: u32,
+    table: &mut [u32],
+    degrees: &mut [u8],
+    xors: &mut [u32],
+    queue: &mut [u32],
+    edges: &mut [u32],
+    verts: &mut [u32],
+    marks: &mut [u8],
+    seen: &mut [u8],
+) -> Built
+    requires { ⌜ 1 ≤ length (now keys) ⌝ }
+    requires { ⌜ assignedEarly (length (now keys)) (length (now values)) modulus (lengthsOf (now table) (now degrees) (now xors) (now queue) (now edges) (now verts) (now marks) [] (now seen)) ≡ 0 ⌝ }
+    ensures { λ r. ⌜ BuiltAssigned (now (keys .entry)) (now (values .entry)) modulus (now (table .entry)) (now (degrees .entry)) (now (xors .entry)) (now (queue .entry)) (now (edges .entry)) (now (verts .entry)) (now (marks .entry)) (now (seen .entry)) r (now (table .exit)) (now (degrees .exit)) (now (xors .exit)) (now (queue .exit)) (now (edges .exit)) (now (verts .exit)) (now (marks .exit)) (now (seen .exit)) ⌝ }
+{
+    let n = keys.len() as u32;
+    let need = needs(Kind::Assigned, n, modulus);
+    let words = need.table as usize;
+    let each = need.vertices as usize;
+    let pairs = need.order as usize;
+    let bytes = need.seen as usize;
+    let m = need.table as u32;
+    let verdict = judge_part(values, modulus, &mut seen[..bytes]);
+    let ran = run_assigned(
+        keys,
+        values,
+        modulus,
+        verdict,
+        m,
+        &mut table[..words],
+        &mut degrees[..each],
+        &mut xors[..each],
+        &mut queue[..each],
+        &mut edges[..pairs],
+        &mut verts[..pairs],
+        &mut marks[..each],
+    );
+    finish(Kind::Assigned, n, m, modulus, ran.no, ran.seed)
+}
+
+// A compact build that has passed its early checks and has a key.
+fn begin_compact(
+    keys: &[u64],
+    table: &mut [u32],
+    occupancy: &mut [u8],
+    degrees: &mut [u8],
+    xors: &mut [u32],
+    queue: &mut [u32],
+    edges: &mut [u32],
+    verts: &mut [u32],
+    marks: &mut [u8],
+) -> Built
+    requires { ⌜ 1 ≤ length (now keys) ⌝ }
+    requires { ⌜ compactEarly (length (now keys)) (lengthsOf (now table) (now degrees) (now xors) (now queue) (now edges) (now verts) (now marks) (now occupancy) []) ≡ 0 ⌝ }
+    ensures { λ r. ⌜ BuiltCompact (now (keys .entry)) (now (table .entry)) (now (occupancy .entry)) (now (degrees .entry)) (now (xors .entry)) (now (queue .entry)) (now (edges .entry)) (now (verts .entry)) (now (marks .entry)) r (now (table .exit)) (now (occupancy .exit)) (now (degrees .exit)) (now (xors .exit)) (now (queue .exit)) (now (edges .exit)) (now (verts .exit)) (now (marks .exit)) ⌝ }
+{
+    let n = keys.len() as u32;
+    let need = needs(Kind::Compact, n, n);
+    let words = need.table as usize;
+    let each = need.vertices as usize;
+    let pairs = need.order as usize;
+    let bytes = need.occupancy as usize;
+    let m = need.table as u32;
+    let ran = run_compact(
+        keys,
+        m,
+        &mut table[..words],
+        &mut occupancy[..bytes],
+        &mut degrees[..each],
+        &mut xors[..each],
+        &mut queue[..each],
+        &mut edges[..pairs],
+        &mut verts[..pairs],
+        &mut marks[..each],
+    );
+    finish(Kind::Compact, n, m, n, ran.no, ran.seed)
 }
