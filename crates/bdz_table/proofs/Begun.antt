@@ -2,7 +2,7 @@
 -- the parts is what the promise says of the whole. Assumes nothing.
 use Prim.Native.Nat.{ℕ, zero, suc, _^_, _<_, _≤_}
 use mathlib.Core.Path.{_≡_, refl, sym, _∙_}
-use mathlib.Core.Bool.{Bool, true, false, not, cond, _||_}
+use mathlib.Core.Bool.{Bool, true, false, not, cond, _&&_, _||_}
 use mathlib.Core.Logic.{_⊎_, inl, inr, ⊎-elim}
 use mathlib.Core.List.{List, [], _∷_, _++_}
 use native.Mathlib.Nat.{not-suc-le-zero, le-of-suc-le-suc}
@@ -17,7 +17,7 @@ use Rattle.bdz_base.specs.Sizes.{occupancyBytes}
 use Rattle.bdz_base.specs.declared.verts.Kind.{Kind}
 use Rattle.bdz_base.specs.declared.verts.Kind.the-variants.{Assigned, Compact}
 use Rattle.bdz_table.specs.Assign.{assign}
-use Rattle.bdz_table.specs.Build.{verticesFor, needsOf, lacksRoom, assignedEarly, compactEarly, begun, lateNo, buildNo, seedFor, widthFor, indexFor, builtFor, wordsFor, assignedTable, compactTable, compactOccupancy, written, lengthsOf}
+use Rattle.bdz_table.specs.Build.{verticesFor, needsOf, lacksRoom, assignedEarly, compactEarly, begun, lateNo, buildNo, seedFor, widthFor, indexFor, refusedBuild, builtFor, BuiltTo, wordsFor, assignedTable, compactTable, compactOccupancy, written, lengthsOf}
 use Rattle.bdz_table.specs.Graph.{has}
 use Rattle.bdz_table.specs.Peel.{Cut}
 use Rattle.bdz_table.specs.Steps.{Shaped, RanTo, newIf}
@@ -260,3 +260,59 @@ values-below modulus earlier (x ∷ xs) e (suc i) l =
 
 pub same-part : (x : ℕ) (s last : List ℕ) → x ≤ length s → length last ≡ length (take x s) → length (last ++ drop x s) ≡ length s
 same-part x s last h e = rw (length-append, e, length-drop) (omega (arith, length-take-le x s h))
+
+-- ---- a build that touches nothing
+
+module _ (kind : Kind) (keys : List ℕ) (early verdict modulus : ℕ) (need : Needs) (words table ds xs q edges verts ms : List ℕ) where
+  -- an early refusal
+  pub refused-early : eqb early 0 ≡ false → BuiltTo (buildNo kind keys early verdict) (begun (length keys) early) (indexFor kind keys modulus) need words table ds xs q edges verts ms (refusedBuild early) table ds xs q edges verts ms
+  refused-early h =
+      record {
+        answer-is = simp h;
+        table-is = simp h;
+        degrees-are = simp h;
+        xors-are = simp h;
+        queue-is = simp h;
+        edges-are = simp h;
+        verts-are = simp h;
+        marks-are = simp h;
+      }
+
+  -- an empty build
+  pub built-empty : (given : ℕ) → given ≡ modulus → early ≡ 0 → length keys ≡ 0 → words ≡ [] → BuiltTo (buildNo kind keys early verdict) (begun (length keys) early) (indexFor kind keys modulus) need words table ds xs q edges verts ms (builtFor 0 (record { kind = kind; n = 0; m = 0; seed = 0; modulus = given; width = widthFor kind given })) table ds xs q edges verts ms
+  unfolding indexFor verticesFor seedFor
+  built-empty given g e l w =
+      record {
+        answer-is = simp (e, l, g);
+        table-is = simp (e, l, w);
+        degrees-are = simp (e, l);
+        xors-are = simp (e, l);
+        queue-is = simp (e, l);
+        edges-are = simp (e, l);
+        verts-are = simp (e, l);
+        marks-are = simp (e, l);
+      }
+
+pub not-begun-refused : (n early : ℕ) → eqb early 0 ≡ false → begun n early ≡ false
+not-begun-refused n early h = simp h
+
+pub not-begun-empty : (n early : ℕ) → n ≡ 0 → begun n early ≡ false
+not-begun-empty n early h = go (eqb early 0)
+  where
+    go : (b : Bool) → (b && not (eqb n 0)) ≡ false
+    go true = simp h
+    go false = refl
+
+pub empty-assigned : (keys values : List ℕ) (modulus : ℕ) → length keys ≡ 0 → assignedTable keys values modulus ≡ []
+unfolding assignedTable
+empty-assigned keys values modulus h = simp h
+
+pub empty-compact : (keys : List ℕ) → length keys ≡ 0 → (compactTable keys ≡ []) × (compactOccupancy keys ≡ [])
+unfolding compactTable compactOccupancy
+empty-compact keys h = (simp h, simp h)
+
+pub occupied-refused : (keys : List ℕ) (early : ℕ) (occ : List ℕ) → eqb early 0 ≡ false → occ ≡ written (buildNo Compact keys early 0) (compactOccupancy keys) occ
+occupied-refused keys early occ h = simp h
+
+pub occupied-empty : (keys : List ℕ) (early : ℕ) (occ : List ℕ) → early ≡ 0 → length keys ≡ 0 → occ ≡ written (buildNo Compact keys early 0) (compactOccupancy keys) occ
+occupied-empty keys early occ e l = simp (e, l, empty-compact keys l .1)

@@ -16,12 +16,16 @@ use super::assign::assign_g;
 use super::assign::note_order;
 use super::index::Built;
 use super::index::Index;
+use super::needs::Lengths;
+use super::needs::early_assigned;
+use super::needs::early_compact;
 use super::needs::needs;
 use super::scratch::zero8;
 use super::scratch::zero32;
 use super::seeds::Found;
 use super::seeds::find_seed;
 use super::seen::judge_values;
+use bdz_base::refusal::ACCEPTED;
 use bdz_base::refusal::GRAPH_DID_NOT_PEEL;
 use bdz_base::size::g_bits_for_modulus;
 use bdz_base::verts::Kind;
@@ -433,4 +437,98 @@ fn begin_compact(
         &mut marks[..each],
     );
     finish(Kind::Compact, n, m, n, ran.no, ran.seed)
+}
+
+// Every key gets its own value; the table is the lent one.
+pub fn build_assigned(
+    keys: &[u64],
+    values: &[u32],
+    modulus: u32,
+    table: &mut [u32],
+    degrees: &mut [u8],
+    xors: &mut [u32],
+    queue: &mut [u32],
+    edges: &mut [u32],
+    verts: &mut [u32],
+    marks: &mut [u8],
+    seen: &mut [u8],
+) -> Built
+    ensures { λ r. ⌜ BuiltAssigned (now (keys .entry)) (now (values .entry)) modulus (now (table .entry)) (now (degrees .entry)) (now (xors .entry)) (now (queue .entry)) (now (edges .entry)) (now (verts .entry)) (now (marks .entry)) (now (seen .entry)) r (now (table .exit)) (now (degrees .exit)) (now (xors .exit)) (now (queue .exit)) (now (edges .exit)) (now (verts .exit)) (now (marks .exit)) (now (seen .exit)) ⌝ }
+{
+    let lent = Lengths {
+        table: table.len(),
+        degrees: degrees.len(),
+        xors: xors.len(),
+        queue: queue.len(),
+        edges: edges.len(),
+        verts: verts.len(),
+        marks: marks.len(),
+        occupancy: 0,
+        seen: seen.len(),
+    };
+    let early = early_assigned(keys.len(), values.len(), modulus, lent);
+    if early != ACCEPTED {
+        return refused(early);
+    }
+    if keys.len() == 0 {
+        return finish(Kind::Assigned, 0, 0, modulus, ACCEPTED, 0);
+    }
+    begin_assigned(
+        keys,
+        values,
+        modulus,
+        table,
+        degrees,
+        xors,
+        queue,
+        edges,
+        verts,
+        marks,
+        seen,
+    )
+}
+
+// Every key gets its own number below the count of the keys; the table and the occupancy are the lent ones.
+pub fn build_compact(
+    keys: &[u64],
+    table: &mut [u32],
+    occupancy: &mut [u8],
+    degrees: &mut [u8],
+    xors: &mut [u32],
+    queue: &mut [u32],
+    edges: &mut [u32],
+    verts: &mut [u32],
+    marks: &mut [u8],
+) -> Built
+    ensures { λ r. ⌜ BuiltCompact (now (keys .entry)) (now (table .entry)) (now (occupancy .entry)) (now (degrees .entry)) (now (xors .entry)) (now (queue .entry)) (now (edges .entry)) (now (verts .entry)) (now (marks .entry)) r (now (table .exit)) (now (occupancy .exit)) (now (degrees .exit)) (now (xors .exit)) (now (queue .exit)) (now (edges .exit)) (now (verts .exit)) (now (marks .exit)) ⌝ }
+{
+    let lent = Lengths {
+        table: table.len(),
+        degrees: degrees.len(),
+        xors: xors.len(),
+        queue: queue.len(),
+        edges: edges.len(),
+        verts: verts.len(),
+        marks: marks.len(),
+        occupancy: occupancy.len(),
+        seen: 0,
+    };
+    let early = early_compact(keys.len(), lent);
+    if early != ACCEPTED {
+        return refused(early);
+    }
+    if keys.len() == 0 {
+        return finish(Kind::Compact, 0, 0, 0, ACCEPTED, 0);
+    }
+    begin_compact(
+        keys,
+        table,
+        occupancy,
+        degrees,
+        xors,
+        queue,
+        edges,
+        verts,
+        marks,
+    )
 }

@@ -1,0 +1,93 @@
+-- `bdz_table::build::build_compact` meets its contract. Assumes nothing.
+use mathlib.Core.Path.{_≡_, sym, _∙_}
+use borrow.Author.Tests.{ne-eqb}
+use lib.ListN.{length}
+use Rattle.bdz_base.specs.declared.verts.Kind.the-variants.{Compact}
+use mathlib.Core.List.{[]}
+use Rattle.bdz_table.specs.Build.{compactEarly, lengthsOf}
+use Rattle.bdz_table.proofs.Begun.{refused-early, built-empty, occupied-refused, occupied-empty, empty-compact}
+use borrow.Author.Needs.{needs}
+use Rattle.bdz_table.proofs.build.build_compact.Statement.{statement}
+use Rattle.bdz_table.proofs.build.build_compact.Tie as tie
+
+early-compact-requires : tie.Need-early-compact-requires
+early-compact-requires c κs = search needs
+
+refused-requires : tie.Need-refused-requires
+refused-requires c κs = search needs
+
+returns : tie.Need-returns
+returns c =
+    let s = c .before .before .before .before .before .before .before .before .before .before .before .before in
+    let a = s .args in
+    let early = c .before .before .early-compact in
+    let h = rw (early .ensures) at (ne-eqb _ _ (c .before .if1 .taken)) in
+    record {
+      to = rw (c .refused .ensures, early .ensures) (refused-early Compact (a .keys .now) _ 0 (length (a .keys .now)) _ _ (a .table .now) (a .degrees .now) (a .xors .now) (a .queue .now) (a .edges .now) (a .verts .now) (a .marks .now) h);
+      occupancy-is = occupied-refused (a .keys .now) (compactEarly (length (a .keys .now)) (lengthsOf (a .table .now) (a .degrees .now) (a .xors .now) (a .queue .now) (a .edges .now) (a .verts .now) (a .marks .now) (a .occupancy .now) [])) (a .occupancy .now) h;
+    }
+
+finish-requires : tie.Need-finish-requires
+finish-requires c κs = search needs
+
+returns-2 : tie.Need-returns-2
+returns-2 c =
+    let s = c .before .before .before .before .before .before .before .before .before .before .before .before .before in
+    let a = s .args in
+    let early = c .before .before .before .early-compact in
+    let none : length (a .keys .now) ≡ 0 = c .before .if2 .taken in
+    let zero = sym (early .ensures) ∙ c .before .before .if1 .left in
+    record {
+      to = rw (c .finish .ensures) (built-empty Compact (a .keys .now) _ 0 (length (a .keys .now)) _ _ (a .table .now) (a .degrees .now) (a .xors .now) (a .queue .now) (a .edges .now) (a .verts .now) (a .marks .now) 0 (sym none) zero none (empty-compact (a .keys .now) none .0));
+      occupancy-is = occupied-empty (a .keys .now) _ (a .occupancy .now) zero none;
+    }
+
+begin-compact-requires : tie.Need-begin-compact-requires
+begin-compact-requires c κs = search needs
+
+same-length : tie.Need-same-length
+same-length c = search needs
+
+same-length-2 : tie.Need-same-length-2
+same-length-2 c = search needs
+
+same-length-3 : tie.Need-same-length-3
+same-length-3 c = search needs
+
+same-length-4 : tie.Need-same-length-4
+same-length-4 c = search needs
+
+same-length-5 : tie.Need-same-length-5
+same-length-5 c = search needs
+
+same-length-6 : tie.Need-same-length-6
+same-length-6 c = search needs
+
+same-length-7 : tie.Need-same-length-7
+same-length-7 c = search needs
+
+same-length-8 : tie.Need-same-length-8
+same-length-8 c = search needs
+
+returns-3 : tie.Need-returns-3
+returns-3 c = search needs
+
+pub build-compact-spec : {M : Type 1} → statement M
+build-compact-spec =
+    tie.close
+    (tie.spec
+    early-compact-requires
+    refused-requires
+    returns
+    finish-requires
+    returns-2
+    begin-compact-requires
+    same-length
+    same-length-2
+    same-length-3
+    same-length-4
+    same-length-5
+    same-length-6
+    same-length-7
+    same-length-8
+    returns-3)
