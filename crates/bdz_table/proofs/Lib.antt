@@ -5,6 +5,7 @@ pub mod Begun
 pub mod Bits
 pub mod Core
 pub mod Counting
+pub mod Demand2
 pub mod Fold
 pub mod Has
 pub mod Judging
@@ -12,6 +13,7 @@ pub mod Leaving
 pub mod Mapped
 pub mod NeedLaws
 pub mod Noting
+pub mod OneAnswer
 pub mod Order
 pub mod Ordering
 pub mod Queue

@@ -16,8 +16,8 @@ use Rattle.bdz_base.specs.declared.mix.Step.{Step}
 use Rattle.bdz_table.specs.Graph.{has, liveOn, degree, Crowded, Peelable, Graph}
 use Rattle.bdz_table.specs.Keys.{graphOf}
 use Rattle.bdz_table.specs.Peel.{peel}
-use Rattle.bdz_table.specs.Seeds.{anyTo, crowded, peelsAll, worksAt, firstFrom, firstSeed}
-use Rattle.bdz_table.specs.Steps.{PeelAnswer, Fails, SeedAnswer}
+use Rattle.bdz_table.specs.Seeds.{Fails, anyTo, crowded, peelsAll, worksAt, firstFrom, firstSeed}
+use Rattle.bdz_table.specs.Steps.{PeelAnswer, SeedAnswer}
 use Rattle.bdz_table.proofs.Fold.{count-none}
 use Rattle.bdz_table.proofs.Has.{clash, known, lt-or-ge}
 use Rattle.bdz_table.proofs.Queue.{peel-yes, peel-no}

@@ -1,12 +1,13 @@
 -- The search for a seed. Assumes nothing.
-use Prim.Native.Nat.{ℕ, zero, suc, _+_}
+use Prim.Native.Nat.{ℕ, zero, suc, _+_, _<_}
 use mathlib.Core.Bool.{Bool, true, false, not, cond, _&&_, _||_}
+use mathlib.Core.Logic.{_⊎_}
 use mathlib.Core.List.{List, []}
 use lib.Dec.{eqb, ltb}
 use lib.ListN.{length}
 use Rattle.bdz_base.specs.Mix.{seedAt}
 use Rattle.bdz_base.specs.declared.verts.Kind.{Kind}
-use Rattle.bdz_table.specs.Graph.{degree}
+use Rattle.bdz_table.specs.Graph.{degree, Crowded, Peelable}
 use Rattle.bdz_table.specs.Keys.{graphOf}
 use Rattle.bdz_table.specs.Peel.{peel}
 
@@ -36,3 +37,11 @@ firstFrom works (suc k) i = cond (works i) i (firstFrom works k (suc i))
 -- "one `splitmix64` step per try, at most 256; the first that works is kept"; 256 if none does
 unfoldable pub firstSeed : Kind → List ℕ → ℕ → ℕ
 firstSeed kind keys m = firstFrom (worksAt kind keys m) 256 0
+
+-- a seed "either puts over 255 keys on one vertex or allows no order in which every key has a vertex that no later key touches"
+abbrev pub Fails : (ℕ → List ℕ) → ℕ → Type 0
+Fails vs n = Crowded vs n ⊎ (Peelable vs n → ⊥)
+
+-- "each of the 256 seeds" does
+abbrev pub EachFails : Kind → List ℕ → ℕ → Type 0
+EachFails kind keys m = (i : ℕ) → i < 256 → Fails (graphOf kind keys (seedAt i) m) (length keys)

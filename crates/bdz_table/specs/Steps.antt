@@ -13,7 +13,7 @@ use Rattle.bdz_base.specs.declared.verts.Kind.the-variants.{Compact}
 use Rattle.bdz_table.specs.Graph.{has, Distinct, onlyIf, degree, xorAt, Crowded, Peelable}
 use Rattle.bdz_table.specs.Peel.{Cut, atsOf, keepIf, ones, upTo, peel}
 use Rattle.bdz_table.specs.Keys.{graphOf}
-use Rattle.bdz_table.specs.Seeds.{firstSeed}
+use Rattle.bdz_table.specs.Seeds.{Fails, firstSeed}
 use Rattle.bdz_table.specs.declared.seeds.Found.{Found}
 use Rattle.bdz_table.specs.Assign.{sumAt, wordFor, assign, partOf}
 use Rattle.bdz_table.specs.Occupancy.{occupancyOf}
@@ -118,7 +118,7 @@ pub record Works (vs : ℕ → List ℕ) (n m : ℕ) (xs q : List ℕ) : Type 0 
 
 pub record PeelAnswer (r : Bool) (vs : ℕ → List ℕ) (n m : ℕ) (xs q : List ℕ) : Type 0 where
   pub yes : r ≡ true → Works vs n m xs q
-  pub no : r ≡ false → Crowded vs n ⊎ (Peelable vs n → ⊥)
+  pub no : r ≡ false → Fails vs n
 
 -- lent buffers for m vertices
 pub record Lent (n m : ℕ) (ds xs q : List ℕ) : Type 0 where
@@ -126,10 +126,6 @@ pub record Lent (n m : ℕ) (ds xs q : List ℕ) : Type 0 where
   pub longd : length ds ≡ m
   pub longx : length xs ≡ m
   pub longq : length q ≡ m
-
--- a seed fails: over 255 keys on one vertex, or no order
-abbrev pub Fails : (ℕ → List ℕ) → ℕ → Type 0
-Fails vs n = Crowded vs n ⊎ (Peelable vs n → ⊥)
 
 -- the first of the 256 seeds that works, with the order that it gave, or 256 where each fails
 pub record SeedAnswer (kind : Kind) (keys : List ℕ) (m : ℕ) (xs q : List ℕ) (r : Found) : Type 0 where
