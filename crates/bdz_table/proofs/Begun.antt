@@ -32,7 +32,7 @@ use Rattle.bdz_table.proofs.Runs.{one-assigned, one-compact, one-occupa
 
 -- ---- a check that passed
 
-refuse-none : (k : ℕ) (b : Bool) (x : ℕ) → refuse (suc k) b x ≡ 0 → (b ≡ false) × (x ≡ 0)
+pub refuse-none : (k : ℕ) (b : Bool) (x : ℕ) → refuse (suc k) b x ≡ 0 → (b ≡ false) × (x ≡ 0)
 refuse-none k true x e = absurd (omega (arith, e))
 refuse-none k false x e = (refl, e)
 

@@ -33,7 +33,7 @@ three-distinct {v} d = (
   (has-other (v .b) (v .c) [] (d .b-c), (refl, tt)),
 )
 
-three-cases : (v a b c : ℕ) → has v (a ∷ b ∷ c ∷ []) ≡ true → (v ≡ a) ⊎ ((v ≡ b) ⊎ (v ≡ c))
+pub three-cases : (v a b c : ℕ) → has v (a ∷ b ∷ c ∷ []) ≡ true → (v ≡ a) ⊎ ((v ≡ b) ⊎ (v ≡ c))
 unfolding has
 three-cases v a b c t =
     ⊎-elim (λ r. inl r) (λ u. ⊎-elim (λ r. inr (inl r)) (λ w. ⊎-elim (λ r. inr (inr r)) (λ z. clash z refl) (has-cons v c [] w)) (has-cons v b (c ∷ []) u)) (has-cons v a (b ∷ c ∷ []) t)

@@ -7,6 +7,7 @@ pub mod Core
 pub mod Counting
 pub mod Demand2
 pub mod Fold
+pub mod Found
 pub mod Has
 pub mod Judging
 pub mod Leaving

@@ -27,6 +27,10 @@ assign vs modulus val (p ∷ older) g =
 unfoldable pub partOf : ℕ → ℕ → ℕ
 partOf m v = cond (ltb v (m / 3)) 0 (cond (ltb v (2 * (m / 3))) 1 2)
 
+-- "sum mod 3 picks the vertex"
+unfoldable pub looked : (ℕ → List ℕ) → ℕ → List ℕ → ℕ → ℕ
+looked vs k g e = getD (vs e) (sumAt g (vs e) % k) 0
+
 -- every cut's key comes to its value
 unfoldable pub Sums : (ℕ → List ℕ) → ℕ → (Cut → ℕ) → List ℕ → List Cut → Type 0
 Sums vs modulus val g [] = Unit {0}
