@@ -1,3 +1,4 @@
 // What the Rust harness links: plain functions on numbers and slices, with keys as little-endian bytes.
+pub mod building;
 pub mod hashing;
 pub mod packing;

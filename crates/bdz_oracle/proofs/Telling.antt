@@ -1,0 +1,70 @@
+-- Keys and values read from their bytes, the words of an answer, and the returns of both exported builds. Assumes nothing.
+use mathlib.Core.Path.{_≡_, refl}
+use mathlib.Core.Bool.{Bool, true, false}
+use mathlib.Core.List.{List, [], _∷_}
+use Prim.Native.Nat.{ℕ, _+_, _-_, _*_, _≤_, min}
+use native.Mathlib.Nat.{add-zero}
+use native.Mathlib.Omega.{arith}
+use lib.ListN.{length, set, take, drop}
+use lib.Seq.{take-at}
+use Rattle.bdz_base.specs.Buffer.{tab, over}
+use Rattle.bdz_base.specs.Pack.{bitsAt}
+use Rattle.bdz_base.proofs.Buffers.{length-tab}
+use Rattle.bdz_base.proofs.Digits.{bits-part}
+use Rattle.bdz_table.specs.Build.{BuiltAssigned, BuiltCompact}
+use Rattle.bdz_table.specs.declared.index.Built.{Built}
+use Rattle.bdz_oracle.specs.Keys.{keyCount, keyAt}
+use Rattle.bdz_oracle.specs.Building.{valueAt, valueCount, keysIn, valuesIn, fieldsOf, lacksAssigned, lacksCompact, ToldAssigned, ToldCompact}
+
+-- key i is read from its own eight bytes
+pub key-here : (bytes : List ℕ) (i : ℕ) {x : ℕ} → x ≡ bitsAt 64 (take (i * 8 + 8 - i * 8) (drop (i * 8) bytes)) (0 * 8) → x ≡ keyAt bytes i
+unfolding keyAt
+key-here bytes i e =
+    let l : i * 8 + 8 - i * 8 ≡ 8 = omega arith in
+    rw (l, bits-part 64 8 (i * 8) 0 bytes (omega arith), add-zero (i * 8 * 8)) at e
+
+-- value i from its own four
+pub value-here : (bytes : List ℕ) (i : ℕ) {x : ℕ} → x ≡ bitsAt (min 32 32) (take (i * 4 + 4 - i * 4) (drop (i * 4) bytes)) 0 → x ≡ valueAt bytes i
+unfolding valueAt
+value-here bytes i e =
+    let l : i * 4 + 4 - i * 4 ≡ 4 = omega arith in
+    rw (l, bits-part 32 4 (i * 4) 0 bytes (omega arith), add-zero (i * 4 * 8)) at e
+
+-- the five words of an answer
+pub five : (old : List ℕ) {a b d e f : ℕ} → 5 ≤ length old → set (set (set (set (set old 0 a) 1 b) 2 d) 3 e) 4 f ≡ over (a ∷ b ∷ d ∷ e ∷ f ∷ []) old
+five [] h = absurd (omega arith)
+five (x ∷ []) h = absurd (omega arith)
+five (x ∷ y ∷ []) h = absurd (omega arith)
+five (x ∷ y ∷ z ∷ []) h = absurd (omega arith)
+five (x ∷ y ∷ z ∷ u ∷ []) h = absurd (omega arith)
+five (x ∷ y ∷ z ∷ u ∷ v ∷ old) h = refl
+
+-- what was read is lent on
+pub read-part : (f : ℕ → ℕ) (n : ℕ) (old : List ℕ) {after : List ℕ} → after ≡ over (tab f n) old → take n after ≡ tab f n
+read-part f n old e = rw e (take-at (tab f n) (drop (length (tab f n)) old) n (length-tab f n))
+
+pub read-long : (f : ℕ → ℕ) (n : ℕ) (old : List ℕ) {after : List ℕ} → after ≡ over (tab f n) old → n ≡ length (take n after)
+read-long f n old e = rw (read-part f n old e, length-tab f n)
+
+-- ---- the returns
+
+-- the assigned build that touches nothing
+pub no-assigned : (bytes valueBytes : List ℕ) (modulus : ℕ) (keyRoom valueRoom table degrees xors queue edges verts marks seen answer : List ℕ) → lacksAssigned bytes valueBytes keyRoom valueRoom answer ≡ true → ToldAssigned bytes valueBytes modulus keyRoom valueRoom table degrees xors queue edges verts marks seen answer 14 keyRoom valueRoom table degrees xors queue edges verts marks seen answer
+no-assigned bytes valueBytes modulus keyRoom valueRoom table degrees xors queue edges verts marks seen answer h = rw h (record { number-is = refl; key-room-is = refl; value-room-is = refl; table-is = refl; degrees-are = refl; xors-are = refl; queue-is = refl; edges-are = refl; verts-are = refl; marks-are = refl; seen-is = refl; answer-is = refl })
+
+-- and the one that is told
+pub some-assigned : (bytes valueBytes : List ℕ) (modulus : ℕ) (keyRoom valueRoom table degrees xors queue edges verts marks seen answer : List ℕ) {keyRoom′ valueRoom′ table′ degrees′ xors′ queue′ edges′ verts′ marks′ seen′ answer′ : List ℕ} {built : Built} → lacksAssigned bytes valueBytes keyRoom valueRoom answer ≡ false → keyRoom′ ≡ over (keysIn bytes) keyRoom → valueRoom′ ≡ over (valuesIn valueBytes) valueRoom → BuiltAssigned (take (keyCount bytes) keyRoom′) (take (valueCount valueBytes) valueRoom′) modulus table degrees xors queue edges verts marks seen built table′ degrees′ xors′ queue′ edges′ verts′ marks′ seen′ → answer′ ≡ over (fieldsOf (built .index)) answer → ToldAssigned bytes valueBytes modulus keyRoom valueRoom table degrees xors queue edges verts marks seen answer (built .no) keyRoom′ valueRoom′ table′ degrees′ xors′ queue′ edges′ verts′ marks′ seen′ answer′
+some-assigned bytes valueBytes modulus keyRoom valueRoom table degrees xors queue edges verts marks seen answer h k v b e =
+    let ks = read-part (keyAt bytes) (keyCount bytes) keyRoom k in
+    let vs = read-part (valueAt valueBytes) (valueCount valueBytes) valueRoom v in
+    rw h (record { built = _; is-built = rw (ks, vs) at b; number-is = refl; key-room-is = k; value-room-is = v; answer-is = e })
+
+-- the compact build that touches nothing
+pub no-compact : (bytes : List ℕ) (keyRoom table occupancy degrees xors queue edges verts marks answer : List ℕ) → lacksCompact bytes keyRoom answer ≡ true → ToldCompact bytes keyRoom table occupancy degrees xors queue edges verts marks answer 14 keyRoom table occupancy degrees xors queue edges verts marks answer
+no-compact bytes keyRoom table occupancy degrees xors queue edges verts marks answer h = rw h (record { number-is = refl; key-room-is = refl; table-is = refl; occupancy-is = refl; degrees-are = refl; xors-are = refl; queue-is = refl; edges-are = refl; verts-are = refl; marks-are = refl; answer-is = refl })
+
+-- and the one that is told
+pub some-compact : (bytes : List ℕ) (keyRoom table occupancy degrees xors queue edges verts marks answer : List ℕ) {keyRoom′ table′ occupancy′ degrees′ xors′ queue′ edges′ verts′ marks′ answer′ : List ℕ} {built : Built} → lacksCompact bytes keyRoom answer ≡ false → keyRoom′ ≡ over (keysIn bytes) keyRoom → BuiltCompact (take (keyCount bytes) keyRoom′) table occupancy degrees xors queue edges verts marks built table′ occupancy′ degrees′ xors′ queue′ edges′ verts′ marks′ → answer′ ≡ over (fieldsOf (built .index)) answer → ToldCompact bytes keyRoom table occupancy degrees xors queue edges verts marks answer (built .no) keyRoom′ table′ occupancy′ degrees′ xors′ queue′ edges′ verts′ marks′ answer′
+some-compact bytes keyRoom table occupancy degrees xors queue edges verts marks answer h k b e =
+    let ks = read-part (keyAt bytes) (keyCount bytes) keyRoom k in
+    rw h (record { built = _; is-built = rw (ks) at b; number-is = refl; key-room-is = k; answer-is = e })
