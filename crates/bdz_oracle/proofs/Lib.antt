@@ -1,3 +1,4 @@
 mod Answers
 pub mod OneAnswer
+mod OneTold
 mod Telling

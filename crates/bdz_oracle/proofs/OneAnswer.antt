@@ -16,6 +16,10 @@ use Rattle.bdz_oracle.proofs.packing.bdz_unpack_g_at.Reads as bdz-unpac
 use Rattle.bdz_oracle.proofs.hashing.bdz_hash_verts.Reads as bdz-hash-verts
 use Rattle.bdz_oracle.proofs.packing.bdz_pack_g.Reads as bdz-pack-g
 use Rattle.bdz_oracle.proofs.packing.bdz_unpack_g.Reads as bdz-unpack-g
+use Rattle.bdz_oracle.proofs.building.bdz_build_assigned.Reads as bdz-build-assigned
+use Rattle.bdz_oracle.proofs.building.bdz_build_compact.Reads as bdz-build-compact
+use Rattle.bdz_oracle.proofs.OneTold.{AssignedLists, CompactLists, one-assigned, one-compact}
+use Rattle.bdz_oracle.specs.Building.{lacksAssigned, lacksCompact}
 
 pub one-bdz-splitmix64 : (κs : _) (a : _) → OneResult (bdz-splitmix64.Post κs a)
 one-bdz-splitmix64 κs a x y s t p q = p ∙ sym q
@@ -61,3 +65,11 @@ one-bdz-pack-g κs a x y s t p q = (p .number-is ∙ sym (q .number-is), p .afte
 
 pub one-bdz-unpack-g : (κs : _) (a : _) → OneOutcome (λ s. s .1 .1 .0 .now) (bdz-unpack-g.Post κs a)
 one-bdz-unpack-g κs a x y s t p q = (refl, p ∙ sym q)
+
+pub one-bdz-build-assigned : (κs : _) (a : _) → OneOutcome {B = AssignedLists} (λ s. (s .1 .1 .1 .0 .now, s .1 .1 .1 .1 .0 .now, s .1 .1 .1 .1 .1 .0 .now, s .1 .1 .1 .1 .1 .1 .0 .now, s .1 .1 .1 .1 .1 .1 .1 .0 .now, s .1 .1 .1 .1 .1 .1 .1 .1 .0 .now, s .1 .1 .1 .1 .1 .1 .1 .1 .1 .0 .now, s .1 .1 .1 .1 .1 .1 .1 .1 .1 .1 .0 .now, s .1 .1 .1 .1 .1 .1 .1 .1 .1 .1 .1 .0 .now, s .1 .1 .1 .1 .1 .1 .1 .1 .1 .1 .1 .1 .0 .now, s .1 .1 .1 .1 .1 .1 .1 .1 .1 .1 .1 .1 .1 .0 .now)) (bdz-build-assigned.Post κs a)
+one-bdz-build-assigned κs a x y s t p q =
+    one-assigned (lacksAssigned (a .0 .now) (a .1 .0 .now) (a .1 .1 .1 .0 .now) (a .1 .1 .1 .1 .0 .now) (a .1 .1 .1 .1 .1 .1 .1 .1 .1 .1 .1 .1 .1 .0 .now)) (a .0 .now) (a .1 .0 .now) (a .1 .1 .0) (a .1 .1 .1 .0 .now) (a .1 .1 .1 .1 .0 .now) (a .1 .1 .1 .1 .1 .0 .now) (a .1 .1 .1 .1 .1 .1 .0 .now) (a .1 .1 .1 .1 .1 .1 .1 .0 .now) (a .1 .1 .1 .1 .1 .1 .1 .1 .0 .now) (a .1 .1 .1 .1 .1 .1 .1 .1 .1 .0 .now) (a .1 .1 .1 .1 .1 .1 .1 .1 .1 .1 .0 .now) (a .1 .1 .1 .1 .1 .1 .1 .1 .1 .1 .1 .0 .now) (a .1 .1 .1 .1 .1 .1 .1 .1 .1 .1 .1 .1 .0 .now) (a .1 .1 .1 .1 .1 .1 .1 .1 .1 .1 .1 .1 .1 .0 .now) x y (s .1 .1 .1 .0 .now) (s .1 .1 .1 .1 .0 .now) (s .1 .1 .1 .1 .1 .0 .now) (s .1 .1 .1 .1 .1 .1 .0 .now) (s .1 .1 .1 .1 .1 .1 .1 .0 .now) (s .1 .1 .1 .1 .1 .1 .1 .1 .0 .now) (s .1 .1 .1 .1 .1 .1 .1 .1 .1 .0 .now) (s .1 .1 .1 .1 .1 .1 .1 .1 .1 .1 .0 .now) (s .1 .1 .1 .1 .1 .1 .1 .1 .1 .1 .1 .0 .now) (s .1 .1 .1 .1 .1 .1 .1 .1 .1 .1 .1 .1 .0 .now) (s .1 .1 .1 .1 .1 .1 .1 .1 .1 .1 .1 .1 .1 .0 .now) (t .1 .1 .1 .0 .now) (t .1 .1 .1 .1 .0 .now) (t .1 .1 .1 .1 .1 .0 .now) (t .1 .1 .1 .1 .1 .1 .0 .now) (t .1 .1 .1 .1 .1 .1 .1 .0 .now) (t .1 .1 .1 .1 .1 .1 .1 .1 .0 .now) (t .1 .1 .1 .1 .1 .1 .1 .1 .1 .0 .now) (t .1 .1 .1 .1 .1 .1 .1 .1 .1 .1 .0 .now) (t .1 .1 .1 .1 .1 .1 .1 .1 .1 .1 .1 .0 .now) (t .1 .1 .1 .1 .1 .1 .1 .1 .1 .1 .1 .1 .0 .now) (t .1 .1 .1 .1 .1 .1 .1 .1 .1 .1 .1 .1 .1 .0 .now) p q
+
+pub one-bdz-build-compact : (κs : _) (a : _) → OneOutcome {B = CompactLists} (λ s. (s .1 .0 .now, s .1 .1 .0 .now, s .1 .1 .1 .0 .now, s .1 .1 .1 .1 .0 .now, s .1 .1 .1 .1 .1 .0 .now, s .1 .1 .1 .1 .1 .1 .0 .now, s .1 .1 .1 .1 .1 .1 .1 .0 .now, s .1 .1 .1 .1 .1 .1 .1 .1 .0 .now, s .1 .1 .1 .1 .1 .1 .1 .1 .1 .0 .now, s .1 .1 .1 .1 .1 .1 .1 .1 .1 .1 .0 .now)) (bdz-build-compact.Post κs a)
+one-bdz-build-compact κs a x y s t p q =
+    one-compact (lacksCompact (a .0 .now) (a .1 .0 .now) (a .1 .1 .1 .1 .1 .1 .1 .1 .1 .1 .0 .now)) (a .0 .now) (a .1 .0 .now) (a .1 .1 .0 .now) (a .1 .1 .1 .0 .now) (a .1 .1 .1 .1 .0 .now) (a .1 .1 .1 .1 .1 .0 .now) (a .1 .1 .1 .1 .1 .1 .0 .now) (a .1 .1 .1 .1 .1 .1 .1 .0 .now) (a .1 .1 .1 .1 .1 .1 .1 .1 .0 .now) (a .1 .1 .1 .1 .1 .1 .1 .1 .1 .0 .now) (a .1 .1 .1 .1 .1 .1 .1 .1 .1 .1 .0 .now) x y (s .1 .0 .now) (s .1 .1 .0 .now) (s .1 .1 .1 .0 .now) (s .1 .1 .1 .1 .0 .now) (s .1 .1 .1 .1 .1 .0 .now) (s .1 .1 .1 .1 .1 .1 .0 .now) (s .1 .1 .1 .1 .1 .1 .1 .0 .now) (s .1 .1 .1 .1 .1 .1 .1 .1 .0 .now) (s .1 .1 .1 .1 .1 .1 .1 .1 .1 .0 .now) (s .1 .1 .1 .1 .1 .1 .1 .1 .1 .1 .0 .now) (t .1 .0 .now) (t .1 .1 .0 .now) (t .1 .1 .1 .0 .now) (t .1 .1 .1 .1 .0 .now) (t .1 .1 .1 .1 .1 .0 .now) (t .1 .1 .1 .1 .1 .1 .0 .now) (t .1 .1 .1 .1 .1 .1 .1 .0 .now) (t .1 .1 .1 .1 .1 .1 .1 .1 .0 .now) (t .1 .1 .1 .1 .1 .1 .1 .1 .1 .0 .now) (t .1 .1 .1 .1 .1 .1 .1 .1 .1 .1 .0 .now) p q
