@@ -5,6 +5,7 @@
 
 use crate::ours::{self, DONE};
 use crate::rng::Rng;
+use crate::topics::builds::{Build, Outcome};
 use crate::{bdz, expressions};
 use std::hint::black_box;
 use std::time::{Duration, Instant};
@@ -15,11 +16,21 @@ const WIDTHS: [u32; 8] = [1, 2, 3, 8, 13, 20, 30, 32];
 const VERTICES_BUDGET: f64 = 1.1;
 const PACKING_BUDGET: f64 = 1.0;
 const UNPACKING_BUDGET: f64 = 1.0;
+/// Numbers of keys, each with its rounds.
+const BUILDS: [(usize, usize); 3] = [(1_000, 300), (100_000, 15), (1_000_000, 5)];
+const BUILD_BUDGET: f64 = 1.2;
 
 pub fn print_table() {
     println!(
         "{ITEMS} items, {ROUNDS} rounds of each side in turn, the fastest of each; \
          all buffers are warm (a round of each side goes before, untimed)"
+    );
+    println!(
+        "builds: ns per key, {} rounds; ours reads the keys from bytes and works in buffers that \
+         were lent once, outside the clock; the Rust's own allocation is part of its time",
+        BUILDS
+            .map(|(keys, rounds)| format!("{keys} keys {rounds}"))
+            .join(", ")
     );
     println!(
         "{:<22} {:>11} {:>11} {:>6} {:>6}",
@@ -34,18 +45,34 @@ pub fn print_table() {
     for width in WIDTHS {
         unpacking(&mut rng, width);
     }
+    for (keys, rounds) in BUILDS {
+        assigned_build(&mut rng, keys, rounds);
+        compact_build(&mut rng, keys, rounds);
+    }
 }
 
 /// Runs both sides in turn and prints a line of the table.
-fn measure(what: &str, budget: f64, mut ours: impl FnMut(), mut rust: impl FnMut()) {
+fn measure(what: &str, budget: f64, ours: impl FnMut(), rust: impl FnMut()) {
+    measure_each(what, ITEMS, ROUNDS, budget, ours, rust);
+}
+
+/// The same for any number of items and rounds.
+fn measure_each(
+    what: &str,
+    items: usize,
+    rounds: usize,
+    budget: f64,
+    mut ours: impl FnMut(),
+    mut rust: impl FnMut(),
+) {
     let (mut our_time, mut rust_time) = (Duration::MAX, Duration::MAX);
     ours();
     rust();
-    for _ in 0..ROUNDS {
+    for _ in 0..rounds {
         our_time = our_time.min(time(&mut ours));
         rust_time = rust_time.min(time(&mut rust));
     }
-    let each = |time: Duration| time.as_secs_f64() * 1e9 / ITEMS as f64;
+    let each = |time: Duration| time.as_secs_f64() * 1e9 / items as f64;
     let ratio = each(our_time) / each(rust_time);
     let verdict = if ratio <= budget { "within" } else { "over" };
     println!(
@@ -160,4 +187,43 @@ fn rust_unpacking(body: &[u8], width: u32, out: &mut [u32]) {
     for (v, place) in out.iter_mut().enumerate() {
         *place = bdz::unpack_g_at(body, v as u32, width);
     }
+}
+
+fn assigned_build(rng: &mut Rng, count: usize, rounds: usize) {
+    let keys = rng.keys(count);
+    let mut values: Vec<u32> = (0..count as u32).collect();
+    rng.shuffle(&mut values);
+    let asked = Build::Assigned(&keys, &values, count as u32);
+    build(rng, &format!("assigned, {count}"), asked, count, rounds);
+}
+
+fn compact_build(rng: &mut Rng, count: usize, rounds: usize) {
+    let keys = rng.keys(count);
+    let asked = Build::Compact(&keys);
+    build(rng, &format!("compact, {count}"), asked, count, rounds);
+}
+
+fn build(rng: &mut Rng, what: &str, asked: Build, count: usize, rounds: usize) {
+    let (keys, values) = (asked.key_bytes(), asked.value_bytes());
+    let needs = asked.needs();
+    let mut loan = asked.loan(rng, needs);
+    let mut built = None;
+    measure_each(
+        &format!("build {what}"),
+        count,
+        rounds,
+        BUILD_BUDGET,
+        || {
+            let status = black_box(asked).ours(black_box(&keys), black_box(&values), &mut loan);
+            assert_eq!(status, DONE);
+            black_box(&mut loan);
+        },
+        || {
+            built = Some(black_box(asked).rust());
+            black_box(&mut built);
+        },
+    );
+    let expected = Outcome::of_rust(built.expect("the Rust was measured"));
+    assert_eq!(loan.answer(), expected.answer(), "{what}: answers differ");
+    assert_eq!(loan.fault(&needs, expected.after()), None, "{what}");
 }

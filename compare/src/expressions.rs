@@ -1,6 +1,9 @@
 //! The Rust's arithmetic that is no function of its own there, written out a second time.
 
-use crate::bdz::{GAMMA_DEN, GAMMA_NUM, RANK_SUPER_BITS};
+use crate::bdz::{splitmix64, GAMMA_DEN, GAMMA_NUM, RANK_SUPER_BITS};
+
+/// Where the builds start their chain of seeds.
+pub const FIRST_STATE: u64 = 0x9e37_79b9_7f4a_7c15;
 
 /// The last n whose counts of vertices fit a `u32`, for either kind: it has 4_294_967_295 vertices,
 /// which is a multiple of 3 as well. The Rust truncates from n = 3_491_843_330 on, in
@@ -19,6 +22,12 @@ pub fn assigned_vertices(n: u32) -> u64 {
 /// What `compact_vertex_count` computes before it truncates to a `u32`.
 pub fn compact_vertices(n: u32) -> u64 {
     assigned_vertices(n).div_ceil(3) * 3
+}
+
+/// The first seeds that a build tries, in order.
+pub fn seeds(count: usize) -> Vec<u64> {
+    let mut state = FIRST_STATE;
+    (0..count).map(|_| splitmix64(&mut state)).collect()
 }
 
 /// The length of the answer of `supers_from_occ_bytes`.

@@ -1,6 +1,7 @@
 //! Compares the proved index with the Rust module it stands for: both are built into one program,
 //! asked the same questions, and must give the same answers.
 
+pub mod lent;
 pub mod ours;
 pub mod rng;
 mod shims;

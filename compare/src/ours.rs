@@ -1,11 +1,28 @@
 //! The functions of the static library, each behind a safe call.
 
+use crate::lent::Loan;
+
 /// The status of a call that did what it was asked.
 pub const DONE: u32 = 0;
+/// The status of a build whose keys and values differ in count.
+pub const ASSIGNED_LEN: u32 = 1;
+/// The status of a build of keys with the modulus 0.
+pub const ASSIGNED_MODULUS: u32 = 2;
+/// The status of a build with a value that is not below the modulus.
+pub const ASSIGNED_VALUE: u32 = 3;
+/// The status of a build with a value that came before.
+pub const ASSIGNED_DUPLICATE: u32 = 4;
+/// The status of a build whose keys no seed peels.
+pub const NOT_PEELED: u32 = 5;
 /// The status of a call with a width that is 0 or over 32.
 pub const BAD_WIDTH: u32 = 10;
+/// The status of a build of more keys, or of a larger modulus, than `MOST`.
+pub const TOO_LARGE: u32 = 13;
 /// The status of a call whose answer has no room.
 pub const NO_ROOM: u32 = 14;
+
+/// The largest number of keys, and the largest modulus, of a build.
+pub const MOST: u32 = 1 << 30;
 
 extern "C" {
     fn bdz_splitmix64(state: u64) -> u64;
@@ -43,6 +60,59 @@ extern "C" {
     );
     fn bdz_unpack_g_at(body: *const u8, body_length: usize, v: u32, width: u32) -> u32;
     fn bdz_extract_g_window(part: *const u8, part_length: usize, start: u64, width: u32) -> u32;
+    fn bdz_build_assigned(
+        keys: *const u8,
+        keys_length: usize,
+        values: *const u8,
+        values_length: usize,
+        modulus: u32,
+        key_room: *mut u64,
+        key_room_length: usize,
+        value_room: *mut u32,
+        value_room_length: usize,
+        table: *mut u32,
+        table_length: usize,
+        degrees: *mut u8,
+        degrees_length: usize,
+        xors: *mut u32,
+        xors_length: usize,
+        queue: *mut u32,
+        queue_length: usize,
+        order_edges: *mut u32,
+        order_edges_length: usize,
+        order_verts: *mut u32,
+        order_verts_length: usize,
+        marks: *mut u8,
+        marks_length: usize,
+        seen: *mut u8,
+        seen_length: usize,
+        answer: *mut u64,
+        answer_length: usize,
+    ) -> u32;
+    fn bdz_build_compact(
+        keys: *const u8,
+        keys_length: usize,
+        key_room: *mut u64,
+        key_room_length: usize,
+        table: *mut u32,
+        table_length: usize,
+        occupancy: *mut u8,
+        occupancy_length: usize,
+        degrees: *mut u8,
+        degrees_length: usize,
+        xors: *mut u32,
+        xors_length: usize,
+        queue: *mut u32,
+        queue_length: usize,
+        order_edges: *mut u32,
+        order_edges_length: usize,
+        order_verts: *mut u32,
+        order_verts_length: usize,
+        marks: *mut u8,
+        marks_length: usize,
+        answer: *mut u64,
+        answer_length: usize,
+    ) -> u32;
 }
 
 // SAFETY of every call below: the library takes numbers, or a slice as its pointer and its length,
@@ -124,4 +194,90 @@ pub fn unpack_g_at(body: &[u8], v: u32, width: u32) -> u32 {
 
 pub fn extract_g_window(part: &[u8], start: u64, width: u32) -> u32 {
     unsafe { bdz_extract_g_window(part.as_ptr(), part.len(), start, width) }
+}
+
+/// The loan has a room for every key and for every value.
+pub fn build_assigned(keys: &[u8], values: &[u8], modulus: u32, loan: &mut Loan) -> u32 {
+    let key_room = loan.key_room.given_mut();
+    let value_room = loan.value_room.given_mut();
+    let table = loan.table.given_mut();
+    let degrees = loan.degrees.given_mut();
+    let xors = loan.xors.given_mut();
+    let queue = loan.queue.given_mut();
+    let order_edges = loan.order_edges.given_mut();
+    let order_verts = loan.order_verts.given_mut();
+    let marks = loan.marks.given_mut();
+    let seen = loan.seen.given_mut();
+    let answer = loan.answer.given_mut();
+    unsafe {
+        bdz_build_assigned(
+            keys.as_ptr(),
+            keys.len(),
+            values.as_ptr(),
+            values.len(),
+            modulus,
+            key_room.as_mut_ptr(),
+            key_room.len(),
+            value_room.as_mut_ptr(),
+            value_room.len(),
+            table.as_mut_ptr(),
+            table.len(),
+            degrees.as_mut_ptr(),
+            degrees.len(),
+            xors.as_mut_ptr(),
+            xors.len(),
+            queue.as_mut_ptr(),
+            queue.len(),
+            order_edges.as_mut_ptr(),
+            order_edges.len(),
+            order_verts.as_mut_ptr(),
+            order_verts.len(),
+            marks.as_mut_ptr(),
+            marks.len(),
+            seen.as_mut_ptr(),
+            seen.len(),
+            answer.as_mut_ptr(),
+            answer.len(),
+        )
+    }
+}
+
+/// The loan has a room for every key.
+pub fn build_compact(keys: &[u8], loan: &mut Loan) -> u32 {
+    let key_room = loan.key_room.given_mut();
+    let table = loan.table.given_mut();
+    let occupancy = loan.occupancy.given_mut();
+    let degrees = loan.degrees.given_mut();
+    let xors = loan.xors.given_mut();
+    let queue = loan.queue.given_mut();
+    let order_edges = loan.order_edges.given_mut();
+    let order_verts = loan.order_verts.given_mut();
+    let marks = loan.marks.given_mut();
+    let answer = loan.answer.given_mut();
+    unsafe {
+        bdz_build_compact(
+            keys.as_ptr(),
+            keys.len(),
+            key_room.as_mut_ptr(),
+            key_room.len(),
+            table.as_mut_ptr(),
+            table.len(),
+            occupancy.as_mut_ptr(),
+            occupancy.len(),
+            degrees.as_mut_ptr(),
+            degrees.len(),
+            xors.as_mut_ptr(),
+            xors.len(),
+            queue.as_mut_ptr(),
+            queue.len(),
+            order_edges.as_mut_ptr(),
+            order_edges.len(),
+            order_verts.as_mut_ptr(),
+            order_verts.len(),
+            marks.as_mut_ptr(),
+            marks.len(),
+            answer.as_mut_ptr(),
+            answer.len(),
+        )
+    }
 }

@@ -74,6 +74,12 @@ impl Rng {
     pub fn keys(&mut self, count: usize) -> Vec<u64> {
         (0..count).map(|_| self.next_u64()).collect()
     }
+
+    pub fn shuffle<T>(&mut self, items: &mut [T]) {
+        for last in (1..items.len()).rev() {
+            items.swap(last, self.below_usize(last + 1));
+        }
+    }
 }
 
 /// Every power of two with the numbers beside it, and the ends.

@@ -1,14 +1,13 @@
 //! The mixers: splitmix64, mix64 and the high half of a product.
 
 use super::Topic;
+use crate::expressions::FIRST_STATE;
 use crate::rng::{edges_u64, Rng};
 use crate::tally::{Difference, Tally};
 use crate::{bdz, expressions, ours};
 
 const RANDOM: u64 = 1_000_000;
 const CHAIN: u64 = 100_000;
-/// Where the builds start their chain of seeds.
-const FIRST_STATE: u64 = 0x9e37_79b9_7f4a_7c15;
 
 pub const TOPIC: Topic = Topic {
     name: "mix",

@@ -1,5 +1,8 @@
 //! The topics of the comparison, one a file.
 
+mod build_assigned;
+mod build_compact;
+pub mod builds;
 mod mix;
 mod pack;
 mod sizes;
@@ -15,12 +18,14 @@ pub struct Topic {
     run: fn(&mut Tally, &mut Rng) -> Result<(), Difference>,
 }
 
-pub const ALL: [Topic; 5] = [
+pub const ALL: [Topic; 7] = [
     mix::TOPIC,
     verts::TOPIC,
     sizes::TOPIC,
     pack::TOPIC,
     unpack::TOPIC,
+    build_assigned::TOPIC,
+    build_compact::TOPIC,
 ];
 
 impl Topic {

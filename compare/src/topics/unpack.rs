@@ -61,14 +61,14 @@ fn run(tally: &mut Tally, rng: &mut Rng) -> Result<(), Difference> {
 }
 
 /// Bytes with other bytes around them, so that an answer which reads past an end shows.
-struct Fenced {
+pub struct Fenced {
     bytes: Vec<u8>,
     start: usize,
     length: usize,
 }
 
 impl Fenced {
-    fn new(rng: &mut Rng, body: &[u8]) -> Self {
+    pub fn new(rng: &mut Rng, body: &[u8]) -> Self {
         let start = FENCE + rng.below_usize(8);
         let mut bytes = vec![0xff; start];
         bytes.extend(body);
@@ -80,7 +80,7 @@ impl Fenced {
         }
     }
 
-    fn given(&self) -> &[u8] {
+    pub fn given(&self) -> &[u8] {
         &self.bytes[self.start..self.start + self.length]
     }
 }

@@ -1,0 +1,268 @@
+//! The buffers that are lent to a build: dirty before it, fenced in, and judged after it.
+
+use crate::rng::Rng;
+use std::fmt::LowerHex;
+
+/// Elements on each side of what a call is given, which it must leave alone.
+const FENCE: usize = 16;
+
+/// An element of a buffer.
+pub trait Item: Copy + PartialEq + LowerHex {
+    const ZERO: Self;
+    fn from_bits(bits: u64) -> Self;
+}
+
+impl Item for u8 {
+    const ZERO: Self = 0;
+    fn from_bits(bits: u64) -> Self {
+        (bits >> 56) as u8
+    }
+}
+
+impl Item for u32 {
+    const ZERO: Self = 0;
+    fn from_bits(bits: u64) -> Self {
+        (bits >> 32) as u32
+    }
+}
+
+impl Item for u64 {
+    const ZERO: Self = 0;
+    fn from_bits(bits: u64) -> Self {
+        bits
+    }
+}
+
+/// How a call must leave a buffer. What is not named here stays as it was.
+#[derive(Clone, Copy)]
+pub enum Left<'a, T> {
+    Untouched,
+    /// So many zeros at its start.
+    Zeros(usize),
+    /// These at its start.
+    New(&'a [T]),
+    /// Anything in what was given; only the fences are judged.
+    Anything,
+}
+
+/// A buffer with a fence on each side, full of dirt.
+pub struct Lent<T> {
+    items: Vec<T>,
+    start: u64,
+}
+
+impl<T: Item> Lent<T> {
+    fn new(rng: &mut Rng, length: usize) -> Self {
+        let mut lent = Self {
+            items: vec![T::ZERO; FENCE + length + FENCE],
+            start: 0,
+        };
+        lent.soil(rng);
+        lent
+    }
+
+    fn soil(&mut self, rng: &mut Rng) {
+        self.start = rng.next_u64();
+        for (at, item) in self.items.iter_mut().enumerate() {
+            *item = dirt(self.start, at);
+        }
+    }
+
+    fn length(&self) -> usize {
+        self.items.len() - 2 * FENCE
+    }
+
+    fn given(&self) -> &[T] {
+        &self.items[FENCE..FENCE + self.length()]
+    }
+
+    pub fn given_mut(&mut self) -> &mut [T] {
+        let length = self.length();
+        &mut self.items[FENCE..FENCE + length]
+    }
+
+    /// The first element that is not as it must be.
+    fn fault(&self, name: &str, left: Left<T>) -> Option<String> {
+        let must_be = |at: usize| match (left, at.checked_sub(FENCE)) {
+            (Left::Zeros(need), Some(place)) if place < need => T::ZERO,
+            (Left::New(new), Some(place)) if place < new.len() => new[place],
+            (Left::Anything, Some(place)) if place < self.length() => self.items[at],
+            _ => dirt(self.start, at),
+        };
+        let at = (0..self.items.len()).find(|&at| self.items[at] != must_be(at))?;
+        Some(format!(
+            "{name}[{}] of {} is {:#x}, not {:#x}",
+            at as i64 - FENCE as i64,
+            self.length(),
+            self.items[at],
+            must_be(at)
+        ))
+    }
+}
+
+/// What stands at a place before a call. It is made anew to judge, so that nothing is kept of a
+/// large buffer, and it is never 0, so that what was set to zero never passes for untouched.
+fn dirt<T: Item>(start: u64, at: usize) -> T {
+    let bits = start
+        .wrapping_add(at as u64)
+        .wrapping_mul(0xd6e8_feb8_6659_fd93);
+    match T::from_bits(bits) {
+        zero if zero == T::ZERO => T::from_bits(u64::MAX),
+        item => item,
+    }
+}
+
+/// How many elements each buffer needs, or has.
+#[derive(Clone, Copy, Default, Debug)]
+pub struct Sizes {
+    pub table: usize,
+    pub occupancy: usize,
+    pub degrees: usize,
+    pub xors: usize,
+    pub queue: usize,
+    pub order_edges: usize,
+    pub order_verts: usize,
+    pub marks: usize,
+    pub seen: usize,
+}
+
+impl Sizes {
+    pub const COUNT: usize = 9;
+
+    pub fn all(&self) -> [usize; Self::COUNT] {
+        let mut copy = *self;
+        copy.all_mut().map(|size| *size)
+    }
+
+    pub fn all_mut(&mut self) -> [&mut usize; Self::COUNT] {
+        [
+            &mut self.table,
+            &mut self.occupancy,
+            &mut self.degrees,
+            &mut self.xors,
+            &mut self.queue,
+            &mut self.order_edges,
+            &mut self.order_verts,
+            &mut self.marks,
+            &mut self.seen,
+        ]
+    }
+
+    /// Whether a buffer of these is shorter than its need.
+    pub fn lack(&self, needs: &Self) -> bool {
+        self.all()
+            .iter()
+            .zip(needs.all())
+            .any(|(&size, need)| size < need)
+    }
+}
+
+/// How a build must leave its buffers.
+pub enum After<'a> {
+    /// It ended before it needed them.
+    Untouched,
+    /// The needed part of the scratch buffers is zeros, and there is no table.
+    Cleared,
+    /// The same, with this table and occupancy.
+    Built(&'a [u32], &'a [u8]),
+}
+
+/// All buffers that a build of either kind is lent.
+pub struct Loan {
+    pub key_room: Lent<u64>,
+    pub value_room: Lent<u32>,
+    pub table: Lent<u32>,
+    pub occupancy: Lent<u8>,
+    pub degrees: Lent<u8>,
+    pub xors: Lent<u32>,
+    pub queue: Lent<u32>,
+    pub order_edges: Lent<u32>,
+    pub order_verts: Lent<u32>,
+    pub marks: Lent<u8>,
+    pub seen: Lent<u8>,
+    pub answer: Lent<u64>,
+    pub lengths: Sizes,
+}
+
+impl Loan {
+    /// The answer of a build: n, m, seed, modulus and width.
+    pub const ANSWER: usize = 5;
+
+    pub fn new(rng: &mut Rng, keys: usize, values: usize, lengths: Sizes) -> Self {
+        Self {
+            key_room: Lent::new(rng, keys),
+            value_room: Lent::new(rng, values),
+            table: Lent::new(rng, lengths.table),
+            occupancy: Lent::new(rng, lengths.occupancy),
+            degrees: Lent::new(rng, lengths.degrees),
+            xors: Lent::new(rng, lengths.xors),
+            queue: Lent::new(rng, lengths.queue),
+            order_edges: Lent::new(rng, lengths.order_edges),
+            order_verts: Lent::new(rng, lengths.order_verts),
+            marks: Lent::new(rng, lengths.marks),
+            seen: Lent::new(rng, lengths.seen),
+            answer: Lent::new(rng, Self::ANSWER),
+            lengths,
+        }
+    }
+
+    /// Makes all of it dirty again, so that a large loan serves several builds.
+    pub fn soil(&mut self, rng: &mut Rng) {
+        for numbers in [&mut self.key_room, &mut self.answer] {
+            numbers.soil(rng);
+        }
+        for words in [
+            &mut self.value_room,
+            &mut self.table,
+            &mut self.xors,
+            &mut self.queue,
+            &mut self.order_edges,
+            &mut self.order_verts,
+        ] {
+            words.soil(rng);
+        }
+        for bytes in [
+            &mut self.occupancy,
+            &mut self.degrees,
+            &mut self.marks,
+            &mut self.seen,
+        ] {
+            bytes.soil(rng);
+        }
+    }
+
+    pub fn answer(&self) -> [u64; Self::ANSWER] {
+        let given = self.answer.given();
+        given.try_into().expect("a loan has room for the answer")
+    }
+
+    /// The first place that a build left otherwise than it must. What the rooms for keys and values
+    /// hold is not judged, and the answer is for the caller to judge.
+    pub fn fault(&self, needs: &Sizes, after: After) -> Option<String> {
+        let (table, occupancy) = match after {
+            After::Built(table, occupancy) => (Left::New(table), Left::New(occupancy)),
+            _ => (Left::Untouched, Left::Untouched),
+        };
+        let cleared = !matches!(after, After::Untouched);
+        self.key_room
+            .fault("key_room", Left::Anything)
+            .or_else(|| self.value_room.fault("value_room", Left::Anything))
+            .or_else(|| self.answer.fault("answer", Left::Anything))
+            .or_else(|| self.table.fault("table", table))
+            .or_else(|| self.occupancy.fault("occupancy", occupancy))
+            .or_else(|| scratch("degrees", &self.degrees, needs.degrees, cleared))
+            .or_else(|| scratch("xors", &self.xors, needs.xors, cleared))
+            .or_else(|| scratch("queue", &self.queue, needs.queue, cleared))
+            .or_else(|| scratch("order_edges", &self.order_edges, needs.order_edges, cleared))
+            .or_else(|| scratch("order_verts", &self.order_verts, needs.order_verts, cleared))
+            .or_else(|| scratch("marks", &self.marks, needs.marks, cleared))
+            .or_else(|| scratch("seen", &self.seen, needs.seen, cleared))
+    }
+}
+
+fn scratch<T: Item>(name: &str, lent: &Lent<T>, need: usize, cleared: bool) -> Option<String> {
+    match cleared {
+        true => lent.fault(name, Left::Zeros(need)),
+        false => lent.fault(name, Left::Untouched),
+    }
+}

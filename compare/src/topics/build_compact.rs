@@ -1,0 +1,99 @@
+//! Building a compact index.
+
+use super::builds::{
+    check, check_short, check_status, crowds, keys_with_equal_ones, notice_seed, set_of_keys,
+    stubborn, Build, Outcome, Room, SETS, SMALL,
+};
+use super::Topic;
+use crate::ours::{DONE, NOT_PEELED};
+use crate::rng::Rng;
+use crate::tally::{Difference, Tally};
+
+pub const TOPIC: Topic = Topic {
+    name: "build_compact",
+    needs: &[
+        ("no keys", 200),
+        ("small builds", SMALL as u64 * SETS * 2),
+        ("first seed kept", 500),
+        ("later seed kept", 500),
+        ("buffer too short", 1_000),
+        ("equal keys", 200),
+        ("255 keys on a vertex", 12),
+        ("256 keys on a vertex", 12),
+        ("no seed peels", 4),
+        ("no seed peels but perhaps the last", 4),
+        ("only the last seed peels", 4),
+        ("large builds", 4),
+    ],
+    run,
+};
+
+fn run(tally: &mut Tally, rng: &mut Rng) -> Result<(), Difference> {
+    for _ in 0..100 {
+        for room in [Room::Empty, Room::Few] {
+            check_status(tally, rng, "no keys", Build::Compact(&[]), room, DONE)?;
+        }
+    }
+    for n in 1..=SMALL {
+        for set in 0..SETS {
+            small_builds(tally, rng, n, set)?;
+        }
+    }
+    for n in (1..=40).chain([64, 65, SMALL, 1_000]) {
+        short_buffers(tally, rng, n)?;
+    }
+    for n in (2..=60).chain([SMALL, 1_000]) {
+        equal_keys(tally, rng, n)?;
+    }
+    crowds(tally, rng, true, check_keys)?;
+    stubborn(tally, rng, true, check_keys)?;
+    for n in [1_000, 5_000, 60_000, 1_000_000] {
+        let keys = rng.keys(n);
+        check_keys(tally, rng, "large builds", &keys)?;
+    }
+    Ok(())
+}
+
+/// Builds with room enough.
+fn check_keys(
+    tally: &mut Tally,
+    rng: &mut Rng,
+    what: &'static str,
+    keys: &[u64],
+) -> Result<Outcome, Difference> {
+    let room = Room::enough(rng);
+    check(tally, rng, what, Build::Compact(keys), room)
+}
+
+/// In buffers that are exact and in longer ones.
+fn small_builds(tally: &mut Tally, rng: &mut Rng, n: usize, set: u64) -> Result<(), Difference> {
+    for room in [Room::Exact, Room::Longer] {
+        let keys = set_of_keys(rng, n, set);
+        let outcome = check(tally, rng, "small builds", Build::Compact(&keys), room)?;
+        notice_seed(tally, &outcome);
+    }
+    Ok(())
+}
+
+/// The buffers are tested before a seed is tried.
+fn short_buffers(tally: &mut Tally, rng: &mut Rng, n: usize) -> Result<(), Difference> {
+    let what = "buffer too short";
+    let keys = rng.keys(n);
+    check_short(tally, rng, what, Build::Compact(&keys))?;
+    let equal = vec![keys[0]; n];
+    check_short(tally, rng, what, Build::Compact(&equal))
+}
+
+fn equal_keys(tally: &mut Tally, rng: &mut Rng, n: usize) -> Result<(), Difference> {
+    let one = rng.next_u64();
+    for keys in [
+        keys_with_equal_ones(rng, n),
+        keys_with_equal_ones(rng, n),
+        keys_with_equal_ones(rng, n),
+        vec![one; n],
+    ] {
+        let outcome = check_keys(tally, rng, "equal keys", &keys)?;
+        assert_eq!(outcome.refusal, NOT_PEELED, "equal keys were told apart");
+    }
+    Ok(())
+}
