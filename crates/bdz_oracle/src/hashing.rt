@@ -86,16 +86,6 @@ pub extern "C" fn bdz_super_count(m: u32) -> u64
     bdz_base::size::super_count(m)
 }
 
-// A kind as a number: 0 is assigned, and every other number compact.
-fn kind_of(compact: u32) -> Kind
-    ensures { λ r. ⌜ r ≡ kindOf compact ⌝ }
-{
-    if compact == 0 {
-        return Kind::Assigned;
-    }
-    Kind::Compact
-}
-
 // Three words a key.
 fn hash_all(keys: &[u8], n: usize, seed: u64, m: u32, kind: Kind, out: &mut [u32])
     requires { ⌜ (n ≡ length (now keys) / 8) × (3 * n ≤ length (now out)) ⌝ }
@@ -113,7 +103,7 @@ fn hash_all(keys: &[u8], n: usize, seed: u64, m: u32, kind: Kind, out: &mut [u32
     }
 }
 
-// The vertices of each key. 14 where out is too short, and then it stays as it is. Bytes that make no whole key are passed over.
+// The vertices of each key, of the assigned kind for 0 and of the compact kind for any other number. 14 where out is too short, and then it stays as it is. Bytes that make no whole key are passed over.
 #[no_mangle]
 pub extern "C" fn bdz_hash_verts(
     keys: &[u8],
@@ -128,6 +118,11 @@ pub extern "C" fn bdz_hash_verts(
     if out.len() < 3 * n {
         return NO_ROOM;
     }
-    hash_all(keys, n, seed, m, kind_of(compact), out);
+    // a kind that is known at the call is one routine in the loop
+    if compact == 0 {
+        hash_all(keys, n, seed, m, Kind::Assigned, out);
+        return ACCEPTED;
+    }
+    hash_all(keys, n, seed, m, Kind::Compact, out);
     ACCEPTED
 }
