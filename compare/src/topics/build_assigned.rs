@@ -1,8 +1,8 @@
 //! Building an assigned index.
 
 use super::builds::{
-    check, check_short, check_status, check_with, crowds, keys_with_equal_ones, notice_seed,
-    set_of_keys, stubborn, Build, Outcome, Room, SETS, SMALL,
+    check, check_short, check_status, check_with, crowds, equal_keys, keys_with_equal_ones,
+    notice_seed, set_of_keys, stubborn, Build, Outcome, Room, SETS, SMALL,
 };
 use super::Topic;
 use crate::ours::{
@@ -61,7 +61,7 @@ fn run(tally: &mut Tally, rng: &mut Rng) -> Result<(), Difference> {
         short_buffers(tally, rng, n)?;
     }
     for n in (2..=60).chain([SMALL, 1_000]) {
-        equal_keys(tally, rng, n)?;
+        equal_keys(tally, rng, n, check_keys)?;
     }
     crowds(tally, rng, false, check_keys)?;
     stubborn(tally, rng, false, check_keys)?;
@@ -244,20 +244,6 @@ fn short_buffers(tally: &mut Tally, rng: &mut Rng, n: usize) -> Result<(), Diffe
     check_short(tally, rng, what, Build::Assigned(&keys, &large, modulus))?;
     let equal = vec![keys[0]; n];
     check_short(tally, rng, what, Build::Assigned(&equal, &good, modulus))
-}
-
-fn equal_keys(tally: &mut Tally, rng: &mut Rng, n: usize) -> Result<(), Difference> {
-    let one = rng.next_u64();
-    for keys in [
-        keys_with_equal_ones(rng, n),
-        keys_with_equal_ones(rng, n),
-        keys_with_equal_ones(rng, n),
-        vec![one; n],
-    ] {
-        let outcome = check_keys(tally, rng, "equal keys", &keys)?;
-        assert_eq!(outcome.refusal, NOT_PEELED, "equal keys were told apart");
-    }
-    Ok(())
 }
 
 /// The bits of the values seen are 128 MiB here, so one loan serves all.

@@ -1,11 +1,11 @@
 //! Building a compact index.
 
 use super::builds::{
-    check, check_short, check_status, crowds, keys_with_equal_ones, notice_seed, set_of_keys,
-    stubborn, Build, Outcome, Room, SETS, SMALL,
+    check, check_short, check_status, crowds, equal_keys, notice_seed, set_of_keys, stubborn,
+    Build, Outcome, Room, SETS, SMALL,
 };
 use super::Topic;
-use crate::ours::{DONE, NOT_PEELED};
+use crate::ours::DONE;
 use crate::rng::Rng;
 use crate::tally::{Difference, Tally};
 
@@ -43,7 +43,7 @@ fn run(tally: &mut Tally, rng: &mut Rng) -> Result<(), Difference> {
         short_buffers(tally, rng, n)?;
     }
     for n in (2..=60).chain([SMALL, 1_000]) {
-        equal_keys(tally, rng, n)?;
+        equal_keys(tally, rng, n, check_keys)?;
     }
     crowds(tally, rng, true, check_keys)?;
     stubborn(tally, rng, true, check_keys)?;
@@ -82,18 +82,4 @@ fn short_buffers(tally: &mut Tally, rng: &mut Rng, n: usize) -> Result<(), Diffe
     check_short(tally, rng, what, Build::Compact(&keys))?;
     let equal = vec![keys[0]; n];
     check_short(tally, rng, what, Build::Compact(&equal))
-}
-
-fn equal_keys(tally: &mut Tally, rng: &mut Rng, n: usize) -> Result<(), Difference> {
-    let one = rng.next_u64();
-    for keys in [
-        keys_with_equal_ones(rng, n),
-        keys_with_equal_ones(rng, n),
-        keys_with_equal_ones(rng, n),
-        vec![one; n],
-    ] {
-        let outcome = check_keys(tally, rng, "equal keys", &keys)?;
-        assert_eq!(outcome.refusal, NOT_PEELED, "equal keys were told apart");
-    }
-    Ok(())
 }

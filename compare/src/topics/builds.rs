@@ -381,6 +381,26 @@ type CheckKeys = fn(&mut Tally, &mut Rng, &'static str, &[u64]) -> Result<Outcom
 /// The three places of a vertex; then all of them, which only the assigned kind can have.
 const CROWDED_PLACES: [(usize, bool); 4] = [(0, false), (1, false), (2, false), (0, true)];
 
+/// Some keys that are equal, and all of them.
+pub fn equal_keys(
+    tally: &mut Tally,
+    rng: &mut Rng,
+    n: usize,
+    check_keys: CheckKeys,
+) -> Result<(), Difference> {
+    let one = rng.next_u64();
+    for keys in [
+        keys_with_equal_ones(rng, n),
+        keys_with_equal_ones(rng, n),
+        keys_with_equal_ones(rng, n),
+        vec![one; n],
+    ] {
+        let outcome = check_keys(tally, rng, "equal keys", &keys)?;
+        assert_eq!(outcome.refusal, NOT_PEELED, "equal keys were told apart");
+    }
+    Ok(())
+}
+
 /// 255 and 256 keys on one vertex at the first seed. Nothing else can fail the seed, so it is kept
 /// with 255 of them and not with 256.
 pub fn crowds(

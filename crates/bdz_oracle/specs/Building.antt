@@ -44,7 +44,7 @@ lacksCompact bytes keyRoom answer = ltb (length keyRoom) (keyCount bytes) || ltb
 
 -- ---- the promises
 
--- 14, and "Refusals before that .. touch nothing"
+-- the harness has no room for what it reads or tells: 14, and every buffer is as it was
 pub record NoAssigned (keyRoom valueRoom table degrees xors queue edges verts marks seen answer : List ℕ) (number : ℕ) (keyRoom′ valueRoom′ table′ degrees′ xors′ queue′ edges′ verts′ marks′ seen′ answer′ : List ℕ) : Type 0 where
   pub number-is : number ≡ 14
   pub key-room-is : keyRoom′ ≡ keyRoom
@@ -78,7 +78,7 @@ abbrev pub ToldAssigned : List ℕ → List ℕ → ℕ → List ℕ → List �
 ToldAssigned bytes valueBytes modulus keyRoom valueRoom table degrees xors queue edges verts marks seen answer =
     AssignedIf (lacksAssigned bytes valueBytes keyRoom valueRoom answer) bytes valueBytes modulus keyRoom valueRoom table degrees xors queue edges verts marks seen answer
 
--- the same for the compact build
+-- both for the compact build
 pub record NoCompact (keyRoom table occupancy degrees xors queue edges verts marks answer : List ℕ) (number : ℕ) (keyRoom′ table′ occupancy′ degrees′ xors′ queue′ edges′ verts′ marks′ answer′ : List ℕ) : Type 0 where
   pub number-is : number ≡ 14
   pub key-room-is : keyRoom′ ≡ keyRoom
