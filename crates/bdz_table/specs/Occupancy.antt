@@ -1,5 +1,5 @@
 -- The occupancy: one bit a vertex. Assumes nothing.
-use mathlib.Core.List.{List, [], _∷_}
+use mathlib.Core.List.{List}
 use Prim.Native.Nat.{ℕ, _/_, _%_, _^_}
 use lib.Bits.{bitOr}
 use lib.ListN.{getD, set}

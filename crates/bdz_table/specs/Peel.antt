@@ -1,7 +1,7 @@
 -- The queue's run, as document 01's peeling paragraph tells it. proofs/Queue has what it means: it removes all keys exactly when
 -- the graph is peelable. Assumes nothing.
 use Prim.Native.Nat.{ℕ, zero, suc, _+_}
-use mathlib.Core.Bool.{Bool, true, false, not, _&&_, cond}
+use mathlib.Core.Bool.{Bool, true, false}
 use mathlib.Core.List.{List, [], _∷_, _++_}
 use lib.Dec.{eqb, leb}
 use lib.ListN.{length, getD}

@@ -1,5 +1,4 @@
 // The search for a seed: one splitmix64 step per try, at most 256.
-ghost use mathlib.Core.Path.{_≡_};
 ghost use lib.ListN.{length};
 ghost use Rattle.bdz_table.specs.Keys.{graphOf};
 ghost use Rattle.bdz_table.specs.Steps.{PeelAnswer, Lent, SeedAnswer};

@@ -1,7 +1,7 @@
 // The values of an assigned build, judged one by one with a bit for each value that came.
 ghost use mathlib.Core.Path.{_≡_};
 ghost use mathlib.Core.List.{[]};
-ghost use lib.ListN.{length, replicate};
+ghost use lib.ListN.{replicate};
 ghost use Rattle.bdz_base.specs.Sizes.{occupancyBytes};
 ghost use Rattle.bdz_table.specs.Values.{valuesNo};
 use super::occ::occ_has;

@@ -6,43 +6,32 @@ use Rattle.bdz_oracle.specs.Keys.{kindOf}
 use borrow.Author.Needs.{needs}
 use Rattle.bdz_oracle.proofs.hashing.bdz_hash_verts.Statement.{statement}
 use Rattle.bdz_oracle.proofs.hashing.bdz_hash_verts.Tie as tie
-use Rattle.bdz_oracle.proofs.hashing.bdz_hash_verts.Reads as reads
-use Rattle.bdz_oracle.proofs.hashing.bdz_hash_verts.Lts as lts
-use Rattle.bdz_oracle.proofs.hashing.hash_all.Reads as hash-all-reads
 
--- src/hashing.rt:118:20
 mul-if1 : tie.Need-mul-if1
 mul-if1 c = search needs
 
--- src/hashing.rt:119:9
 returns : tie.Need-returns
 returns c =
     let a = c .before .before .before .args in
     no-room (kindOf (a .compact)) (a .keys .now) (a .seed) (a .m) (a .out .now) (lt-ltb _ _ (c .if1 .taken))
 
--- src/hashing.rt:123:9
 hash-all-requires : tie.Need-hash-all-requires
 hash-all-requires c κs = search needs
 
--- src/hashing.rt:124:9
 same-length : tie.Need-same-length
 same-length c = search needs
 
--- src/hashing.rt:124:9
 returns-2 : tie.Need-returns-2
 returns-2 c =
     let a = c .before .before .before .before .before .before .before .before .args in
     hashed (kindOf (a .compact)) (a .keys .now) (a .seed) (a .m) (a .out .now) (le-ltb _ _ (c .before .before .before .before .before .if1 .left)) (rw (ap kindOf (c .before .before .before .before .if2 .taken)) (c .before .before .hash-all .ensures))
 
--- src/hashing.rt:126:5
 hash-all-requires-2 : tie.Need-hash-all-requires-2
 hash-all-requires-2 c κs = search needs
 
--- src/hashing.rt:107:1
 same-length-2 : tie.Need-same-length-2
 same-length-2 c = search needs
 
--- src/hashing.rt:107:1
 returns-3 : tie.Need-returns-3
 returns-3 c =
     let a = c .before .before .before .before .before .before .before .before .args in

@@ -1,19 +1,15 @@
 -- `bdz_oracle::hashing::hash_all` meets its contract. The loop's invariant: the words of i keys stand in out. Assumes nothing.
 use Rattle.bdz_oracle.proofs.Answers.{key-vertices, word-a, word-b, word-c}
-use Rattle.bdz_oracle.specs.Keys.{vertexAt, keyAt}
+use Rattle.bdz_oracle.specs.Keys.{vertexAt}
 use Rattle.bdz_base.proofs.Buffers.{tab-none, tab-three}
 use Rattle.bdz_base.specs.Buffer.{tab, over}
 use lib.ListN.{length, length-set}
 use borrow.Author.Needs.{needs}
 use native.Mathlib.Omega.{arith}
-use Prim.Native.Nat.{ℕ, _+_, _-_, _*_, _≤_}
-use mathlib.Core.Path.{_≡_, refl, ap, _∙_}
+use Prim.Native.Nat.{_-_, _*_, _≤_}
+use mathlib.Core.Path.{_≡_, refl}
 use Rattle.bdz_oracle.proofs.hashing.hash_all.Statement.{statement}
 use Rattle.bdz_oracle.proofs.hashing.hash_all.Tie as tie
-use Rattle.bdz_oracle.proofs.hashing.hash_all.Reads as reads
-use Rattle.bdz_oracle.proofs.hashing.hash_all.Lts as lts
-use Rattle.bdz_base.proofs.verts.hash_verts.Reads as hash-verts-reads
-use Rattle.bdz_base.proofs.words.le64.Reads as le64-reads
 
 abbrev Inv-loop : tie.InvT-loop
 Inv-loop keys n seed m kind out₀ i₀ out i =
@@ -22,93 +18,71 @@ Inv-loop keys n seed m kind out₀ i₀ out i =
 abbrev μ-loop : tie.MeasureT-loop
 μ-loop keys n seed m kind out₀ i₀ out i = n - i
 
--- src/hashing.rt:105:5
 loop-holds : tie.Need-loop-holds Inv-loop μ-loop
 loop-holds c =
     let a = c .before .before .args in
     (omega arith, refl, tab-none (vertexAt (a .kind) (a .keys .now) (a .seed) (a .m)) (a .out .now))
 
--- src/hashing.rt:106:18
 mul-at : tie.Need-mul-at Inv-loop μ-loop
 mul-at c = search needs
 
--- src/hashing.rt:107:19
 add-end : tie.Need-add-end Inv-loop μ-loop
 add-end c = search needs
 
--- src/hashing.rt:108:33
 sub-le64 : tie.Need-sub-le64 Inv-loop μ-loop
 sub-le64 c = search needs
 
--- src/hashing.rt:108:33
 part-le64-start : tie.Need-part-le64-start Inv-loop μ-loop
 part-le64-start c = search needs
 
--- src/hashing.rt:108:33
 part-le64-end : tie.Need-part-le64-end Inv-loop μ-loop
 part-le64-end c = search needs
 
--- src/hashing.rt:108:28
 le64-requires : tie.Need-le64-requires Inv-loop μ-loop
 le64-requires c κs = search needs
 
--- src/hashing.rt:108:13
 hash-verts-requires : tie.Need-hash-verts-requires Inv-loop μ-loop
 hash-verts-requires c κs = search needs
 
--- src/hashing.rt:109:13
 mul-out : tie.Need-mul-out Inv-loop μ-loop
 mul-out c = search needs
 
--- src/hashing.rt:109:9
 mul-out-2 : tie.Need-mul-out-2 Inv-loop μ-loop
 mul-out-2 c = search needs
 
--- src/hashing.rt:109:9
 slice-write-out : tie.Need-slice-write-out Inv-loop μ-loop
 slice-write-out c = search needs
 
--- src/hashing.rt:110:13
 mul-out-3 : tie.Need-mul-out-3 Inv-loop μ-loop
 mul-out-3 c = search needs
 
--- src/hashing.rt:110:13
 add-out : tie.Need-add-out Inv-loop μ-loop
 add-out c = search needs
 
--- src/hashing.rt:110:9
 mul-out-4 : tie.Need-mul-out-4 Inv-loop μ-loop
 mul-out-4 c = search needs
 
--- src/hashing.rt:110:9
 slice-write-out-2 : tie.Need-slice-write-out-2 Inv-loop μ-loop
 slice-write-out-2 c = simp length-set (omega arith)
 
--- src/hashing.rt:111:13
 mul-out-5 : tie.Need-mul-out-5 Inv-loop μ-loop
 mul-out-5 c = search needs
 
--- src/hashing.rt:111:13
 add-out-2 : tie.Need-add-out-2 Inv-loop μ-loop
 add-out-2 c = search needs
 
--- src/hashing.rt:111:9
 mul-out-6 : tie.Need-mul-out-6 Inv-loop μ-loop
 mul-out-6 c = search needs
 
--- src/hashing.rt:111:9
 slice-write-out-3 : tie.Need-slice-write-out-3 Inv-loop μ-loop
 slice-write-out-3 c = simp length-set (omega arith)
 
--- src/hashing.rt:112:9
 add-i : tie.Need-add-i Inv-loop μ-loop
 add-i c = search needs
 
--- src/hashing.rt:105:5
 loop-less : tie.Need-loop-less Inv-loop μ-loop
 loop-less c = search needs
 
--- src/hashing.rt:105:5
 loop-again : tie.Need-loop-again Inv-loop μ-loop
 loop-again c =
     let l = c .before .before .before .before .loop in
@@ -117,11 +91,9 @@ loop-again c =
     let f = vertexAt (a .kind) (a .keys .now) (a .seed) (a .m) in
     (omega arith, simp length-set (omega arith), rw (l .inv .2) (tab-three f (l .i) (a .out .now) (omega arith) (word-a (a .kind) (a .keys .now) (a .seed) (a .m) (l .i) e) (word-b (a .kind) (a .keys .now) (a .seed) (a .m) (l .i) e) (word-c (a .kind) (a .keys .now) (a .seed) (a .m) (l .i) e)))
 
--- src/hashing.rt:100:1
 same-length : tie.Need-same-length Inv-loop μ-loop
 same-length c = search needs
 
--- src/hashing.rt:100:1
 returns : tie.Need-returns Inv-loop μ-loop
 returns c =
     let l = c .before .loop in
