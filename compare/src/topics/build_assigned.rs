@@ -1,8 +1,8 @@
 //! Building an assigned index.
 
 use super::builds::{
-    check, check_short, check_status, check_with, crowds, equal_keys, keys_with_equal_ones,
-    notice_seed, set_of_keys, stubborn, Build, Outcome, Room, SETS, SMALL,
+    check, check_short, check_status, check_with, hard_builds, keys_with_equal_ones, notice_seed,
+    set_of_keys, Build, Outcome, Room, SETS, SMALL,
 };
 use super::Topic;
 use crate::ours::{
@@ -57,20 +57,8 @@ fn run(tally: &mut Tally, rng: &mut Rng) -> Result<(), Difference> {
             bad_values(tally, rng, n)?;
         }
     }
-    for n in (1..=40).chain([64, 65, SMALL, 1_000]) {
-        short_buffers(tally, rng, n)?;
-    }
-    for n in (2..=60).chain([SMALL, 1_000]) {
-        equal_keys(tally, rng, n, check_keys)?;
-    }
-    crowds(tally, rng, false, check_keys)?;
-    stubborn(tally, rng, false, check_keys)?;
     largest_modulus(tally, rng)?;
-    for n in [1_000, 5_000, 60_000, 1_000_000] {
-        let keys = rng.keys(n);
-        check_keys(tally, rng, "large builds", &keys)?;
-    }
-    Ok(())
+    hard_builds(tally, rng, false, short_buffers, check_keys)
 }
 
 /// Different values below the modulus, in any order.

@@ -1,8 +1,8 @@
 //! Building a compact index.
 
 use super::builds::{
-    check, check_short, check_status, crowds, equal_keys, notice_seed, set_of_keys, stubborn,
-    Build, Outcome, Room, SETS, SMALL,
+    check, check_short, check_status, hard_builds, notice_seed, set_of_keys, Build, Outcome, Room,
+    SETS, SMALL,
 };
 use super::Topic;
 use crate::ours::DONE;
@@ -39,19 +39,7 @@ fn run(tally: &mut Tally, rng: &mut Rng) -> Result<(), Difference> {
             small_builds(tally, rng, n, set)?;
         }
     }
-    for n in (1..=40).chain([64, 65, SMALL, 1_000]) {
-        short_buffers(tally, rng, n)?;
-    }
-    for n in (2..=60).chain([SMALL, 1_000]) {
-        equal_keys(tally, rng, n, check_keys)?;
-    }
-    crowds(tally, rng, true, check_keys)?;
-    stubborn(tally, rng, true, check_keys)?;
-    for n in [1_000, 5_000, 60_000, 1_000_000] {
-        let keys = rng.keys(n);
-        check_keys(tally, rng, "large builds", &keys)?;
-    }
-    Ok(())
+    hard_builds(tally, rng, true, short_buffers, check_keys)
 }
 
 /// Builds with room enough.

@@ -381,8 +381,35 @@ type CheckKeys = fn(&mut Tally, &mut Rng, &'static str, &[u64]) -> Result<Outcom
 /// The three places of a vertex; then all of them, which only the assigned kind can have.
 const CROWDED_PLACES: [(usize, bool); 4] = [(0, false), (1, false), (2, false), (0, true)];
 
+/// Checks builds of so many keys.
+type CheckCount = fn(&mut Tally, &mut Rng, usize) -> Result<(), Difference>;
+
+/// What both kinds are tried with: short buffers, equal keys, crowded vertices, keys that the seeds
+/// refuse, and many keys.
+pub fn hard_builds(
+    tally: &mut Tally,
+    rng: &mut Rng,
+    compact: bool,
+    short_buffers: CheckCount,
+    check_keys: CheckKeys,
+) -> Result<(), Difference> {
+    for n in (1..=40).chain([64, 65, SMALL, 1_000]) {
+        short_buffers(tally, rng, n)?;
+    }
+    for n in (2..=60).chain([SMALL, 1_000]) {
+        equal_keys(tally, rng, n, check_keys)?;
+    }
+    crowds(tally, rng, compact, check_keys)?;
+    stubborn(tally, rng, compact, check_keys)?;
+    for n in [1_000, 5_000, 60_000, 1_000_000] {
+        let keys = rng.keys(n);
+        check_keys(tally, rng, "large builds", &keys)?;
+    }
+    Ok(())
+}
+
 /// Some keys that are equal, and all of them.
-pub fn equal_keys(
+fn equal_keys(
     tally: &mut Tally,
     rng: &mut Rng,
     n: usize,
@@ -403,7 +430,7 @@ pub fn equal_keys(
 
 /// 255 and 256 keys on one vertex at the first seed. Nothing else can fail the seed, so it is kept
 /// with 255 of them and not with 256.
-pub fn crowds(
+fn crowds(
     tally: &mut Tally,
     rng: &mut Rng,
     compact: bool,
@@ -434,7 +461,7 @@ pub fn crowds(
 
 /// Different keys that no seed peels, and such that no seed peels but perhaps the last. The first
 /// ones would peel with one seed more.
-pub fn stubborn(
+fn stubborn(
     tally: &mut Tally,
     rng: &mut Rng,
     compact: bool,
