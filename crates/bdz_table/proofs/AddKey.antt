@@ -14,7 +14,8 @@ use lib.ListN.{length, getD, take, set, length-set}
 use lib.Seq.{take-suc, take-all, getD-set-same, getD-set-other}
 use Rattle.bdz_table.specs.Graph.{has, Distinct, onlyIf}
 use Rattle.bdz_table.specs.Steps.{Places, Added, Full}
-use Rattle.bdz_table.proofs.Has.{clash, known, has-head, has-other, has-cons, has-tail, has-append}
+use Rattle.bdz_table.proofs.Fold.{clash}
+use Rattle.bdz_table.proofs.Has.{known, has-head, has-other, has-cons, has-tail, has-append}
 
 -- ---- the first j of a list
 

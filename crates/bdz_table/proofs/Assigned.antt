@@ -11,7 +11,8 @@ use lib.Seq.{getD-set-same, getD-set-other}
 use Rattle.bdz_table.specs.Graph.{has, Distinct, Graph}
 use Rattle.bdz_table.specs.Peel.{Cut, keysOf, atsOf}
 use Rattle.bdz_table.specs.Assign.{sumAt, wordFor, assign, Sums}
-use Rattle.bdz_table.proofs.Has.{clash, known, has-head, has-cons, has-tail, lacks}
+use Rattle.bdz_table.proofs.Fold.{clash}
+use Rattle.bdz_table.proofs.Has.{known, has-head, has-cons, has-tail, lacks}
 use Rattle.bdz_table.proofs.Core.{Cuts}
 
 -- the word does what it is for

@@ -26,7 +26,8 @@ use Rattle.bdz_table.specs.declared.build.Ran.{Ran}
 use Rattle.bdz_table.specs.declared.index.Needs.{Needs}
 use Rattle.bdz_table.specs.declared.needs.Lengths.{Lengths}
 use Rattle.bdz_table.proofs.Bits.{length-occupancy}
-use Rattle.bdz_table.proofs.Has.{clash, lt-or-ge}
+use Rattle.bdz_table.proofs.Fold.{clash}
+use Rattle.bdz_table.proofs.Has.{lt-or-ge}
 use Rattle.bdz_table.proofs.NeedLaws.{vertices-fit, vertices-more, vertices-one}
 use Rattle.bdz_table.proofs.Runs.{one-assigned, one-compact, one-occupancy, many-assigned-table, many-compact-table, many-occupancy}
 

@@ -19,6 +19,7 @@ use Rattle.bdz_base.proofs.Buffers.{length-tab}
 use Rattle.bdz_base.proofs.Digits.{digit, value-lt, length-packed, value-packed, bits-low, bits-within}
 use Rattle.bdz_table.specs.Graph.{has, onlyIf}
 use Rattle.bdz_table.specs.Occupancy.{withBit, occupancyOf}
+use Rattle.bdz_table.proofs.Zeroing.{replicate-zero}
 
 -- ---- a bit, in its byte
 
@@ -134,12 +135,6 @@ bytes-small v bytes h =
     set-small bytes (v / 8) (byteWith v bytes) h
     (or-lt 8 (getD bytes (v / 8) 0) (2 ^ (v % 8)) (h (v / 8)) (pow-lt l))
 
--- zeros are zero, also past their end
-pub zero-at : (n i : ℕ) → _≡_ {A = ℕ} (getD (replicate n 0) i 0) 0
-zero-at zero i = refl
-zero-at (suc n) zero = refl
-zero-at (suc n) (suc i) = zero-at n i
-
 -- ---- a table is known by its bits
 
 -- numbers with the same bits agree as far as they are looked at
@@ -165,7 +160,7 @@ same-bits xs ys l p q h =
 
 -- no bit of zeros is set
 pub bit-zeros : (n v : ℕ) → bitsAt 1 (replicate n 0) v ≡ 0
-bit-zeros n v = bit-byte (replicate n 0) v ∙ rw (zero-at n (v / 8), zero-div (2 ^ (v % 8)))
+bit-zeros n v = bit-byte (replicate n 0) v ∙ rw (replicate-zero n (v / 8), zero-div (2 ^ (v % 8)))
 
 -- a table of words of one bit has them as its bits
 pub bit-packed : (words : List ℕ) (v : ℕ) → bitsAt 1 (packOf 1 words) v ≡ getD words v 0 % 2
@@ -241,7 +236,7 @@ pub occupancy-none : (m : ℕ) → replicate (occupancyBytes m) 0 ≡ occupancyO
 unfolding has
 occupancy-none m =
     occupancy-is m [] (replicate (occupancyBytes m) 0) (length-replicate (occupancyBytes m) 0)
-    (λ (i : ℕ). rw (zero-at (occupancyBytes m) i) (omega arith))
+    (λ (i : ℕ). rw (replicate-zero (occupancyBytes m) i) (omega arith))
     (λ (v : ℕ) (h : v < m). bit-zeros (occupancyBytes m) v)
     (λ (v : ℕ) (h : m ≤ v). bit-zeros (occupancyBytes m) v)
 

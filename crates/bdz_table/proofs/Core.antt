@@ -11,8 +11,8 @@ use lib.ListN.{length}
 use lib.Bits.{bitXor, xor-comm, xor-zero-r}
 use Rattle.bdz_table.specs.Graph.{has, Distinct, onlyIf, times, countTo, xorTo, liveOn, degree, xorAt, Peels, Peelable}
 use Rattle.bdz_table.specs.Peel.{Cut, keysOf}
-use Rattle.bdz_table.proofs.Fold.{fold-change, xor-assoc, xor-twice, TheOne, the-one, count-one}
-use Rattle.bdz_table.proofs.Has.{clash, known, lt-or-ge, has-head, has-other, has-cons, has-tail, lacks, has-times, has-pos, times-lacks, times-has, times-reverse, distinct-full}
+use Rattle.bdz_table.proofs.Fold.{clash, fold-change, xor-assoc, xor-twice, TheOne, the-one, count-one}
+use Rattle.bdz_table.proofs.Has.{known, lt-or-ge, has-head, has-other, has-cons, has-tail, lacks, has-times, has-pos, times-lacks, times-has, times-reverse, distinct-full}
 
 -- ---- one more key gone
 

@@ -20,8 +20,8 @@ use Rattle.bdz_table.specs.Graph.{has, Distinct, onlyIf, foldTo, countTo
 use Rattle.bdz_table.specs.Keys.{listed, graphOf}
 use Rattle.bdz_table.specs.Peel.{keepIf, upTo}
 use Rattle.bdz_table.specs.Steps.{Places, Added, Full, AddedOr, Tables, Clear, carrying, Queued}
-use Rattle.bdz_table.proofs.Fold.{count-true, count-false}
-use Rattle.bdz_table.proofs.Has.{clash, known, has-other, has-cons}
+use Rattle.bdz_table.proofs.Fold.{clash, count-true, count-false}
+use Rattle.bdz_table.proofs.Has.{known, has-other, has-cons}
 use Rattle.bdz_table.proofs.Leaving.{carrying-append}
 
 -- ---- the graph: all that is used of the vertex routine are its laws

@@ -15,7 +15,7 @@ use Rattle.bdz_base.specs.Verts.{vertsOf}
 use Rattle.bdz_base.specs.declared.verts.Kind.{Kind}
 use Rattle.bdz_base.specs.declared.verts.Kind.the-variants.{Assigned, Compact}
 use Rattle.bdz_table.specs.Build.{verticesFor, needsOf, lacksRoom, assignedEarly, compactEarly, buildNo, lateNo, stuck, indexFor, builtFor, lengthsOf, BuiltAssigned, BuiltCompact}
-use Rattle.bdz_table.specs.Graph.{has, foldTo, countTo, liveOn, degree, xorAt, times, Peels, Peelable, Graph}
+use Rattle.bdz_table.specs.Graph.{has, liveOn, degree, xorAt, times, Peels, Peelable, Graph}
 use Rattle.bdz_table.specs.Keys.{graphOf}
 use Rattle.bdz_table.specs.Peel.{peel}
 use Rattle.bdz_table.specs.Seeds.{Fails, EachFails, worksAt, firstFrom, firstSeed}
@@ -25,8 +25,8 @@ use Rattle.bdz_table.specs.declared.index.Built.{Built}
 use Rattle.bdz_table.specs.declared.needs.Lengths.{Lengths}
 use Rattle.bdz_table.proofs.Core.{cut-of, degree-on}
 use Rattle.bdz_table.proofs.Counting.{graph-of}
-use Rattle.bdz_table.proofs.Fold.{count-true, count-false}
-use Rattle.bdz_table.proofs.Has.{clash, known, lt-or-ge, has-head}
+use Rattle.bdz_table.proofs.Fold.{clash}
+use Rattle.bdz_table.proofs.Has.{lt-or-ge, has-head, count-le}
 use Rattle.bdz_table.proofs.NeedLaws.{vertices-more}
 use Rattle.bdz_table.proofs.Queue.{peel-end}
 use Rattle.bdz_table.proofs.Tries.{fails-iff, first-is}
@@ -48,11 +48,6 @@ module _ (kind : Kind) (keys : List ℕ) (m : ℕ) (room : 3 ≤ m) where
 
 -- ---- fewer: no seed fails
 
-count-few : (p : ℕ → Bool) (n : ℕ) → countTo p n ≤ n
-unfolding countTo foldTo
-count-few p zero = omega arith
-count-few p (suc n) = ⊎-elim (λ t. omega (arith, count-true p n t, count-few p n)) (λ t. omega (arith, count-false p n t, count-few p n)) (known (p n))
-
 module _ (vs : ℕ → List ℕ) (v : ℕ) (on : has v (vs 0) ≡ true) where
   few-peels : (n : ℕ) → n ≤ 1 → Peelable vs n
   unfolding times Peels has
@@ -70,7 +65,7 @@ module _ (vs : ℕ → List ℕ) (v : ℕ) (on : has v (vs 0) ≡ true) where
 
   few-works : (n : ℕ) → n ≤ 1 → Fails vs n → ⊥
   unfolding degree
-  few-works n h (inl c) = omega (arith, c .over, count-few (liveOn vs [] (c .at)) n)
+  few-works n h (inl c) = omega (arith, c .over, count-le (liveOn vs [] (c .at)) n)
   few-works n h (inr s) = s (few-peels n h)
 
 -- ---- the number

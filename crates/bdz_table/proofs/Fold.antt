@@ -120,7 +120,7 @@ pub record TheOne (p : ℕ → Bool) (n e : ℕ) : Type 0 where
   pub passes : p e ≡ true
   pub only : (j : ℕ) → j < n → p j ≡ true → j ≡ e
 
-clash : {A : Type 0} {b : Bool} → b ≡ true → b ≡ false → A
+pub clash : {A : Type 0} {b : Bool} → b ≡ true → b ≡ false → A
 clash p q = absurd (true≢false (sym p ∙ q))
 
 pub count-one : (p : ℕ → Bool) (n e : ℕ) → TheOne p n e → countTo p n ≡ 1

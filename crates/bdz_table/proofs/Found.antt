@@ -30,7 +30,8 @@ use Rattle.bdz_table.proofs.Begun.{refuse-none, assigned-passed, number
 use Rattle.bdz_table.proofs.Bits.{occupancy-bit}
 use Rattle.bdz_table.proofs.Core.{CutOf, Cuts, keys-distinct, keys-below, keys-length}
 use Rattle.bdz_table.proofs.Counting.{three-cases, graph-of, graph-few}
-use Rattle.bdz_table.proofs.Has.{clash, has-cons, has-head, has-tail, distinct-full}
+use Rattle.bdz_table.proofs.Fold.{clash}
+use Rattle.bdz_table.proofs.Has.{has-cons, has-head, has-tail, distinct-full}
 use Rattle.bdz_table.proofs.NeedLaws.{vertices-more}
 use Rattle.bdz_table.proofs.Queue.{peel-end}
 use Rattle.bdz_table.proofs.Runs.{part-below, many-assigned-table, many-compact-table, many-occupancy}

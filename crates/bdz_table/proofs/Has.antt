@@ -2,7 +2,7 @@
 use Prim.Native.Nat.{ℕ, zero, suc, _+_, _<_, _≤_}
 use mathlib.Core.Path.{_≡_, refl, sym, ap, ap₂, _∙_}
 use mathlib.Core.Logic.{_⊎_, inl, inr, ⊎-elim}
-use mathlib.Core.Bool.{Bool, true, false, _||_, true≢false}
+use mathlib.Core.Bool.{Bool, true, false, _||_}
 use mathlib.Core.List.{List, [], _∷_, _++_, reverseAux}
 use native.Mathlib.Nat.{add-comm, zero-add, add-assoc, eq-or-lt-of-le, le-of-suc-le-suc, not-suc-le-zero}
 use native.Mathlib.Omega.{arith}
@@ -10,10 +10,7 @@ use borrow.Author.Tests.{eqb-true, eqb-false, eq-eqb, ne-eqb, ltb-true, ltb-fals
 use lib.Dec.{eqb, ltb}
 use lib.ListN.{length}
 use Rattle.bdz_table.specs.Graph.{has, Distinct, onlyIf, times, countTo, foldTo}
-use Rattle.bdz_table.proofs.Fold.{fold-change, count-true, count-false, count-none}
-
-pub clash : {A : Type 0} {b : Bool} → b ≡ true → b ≡ false → A
-clash p q = absurd (true≢false (sym p ∙ q))
+use Rattle.bdz_table.proofs.Fold.{clash, fold-change, count-true, count-false, count-none}
 
 pub known : (b : Bool) → (b ≡ true) ⊎ (b ≡ false)
 known true = inl refl
@@ -33,13 +30,13 @@ has-other k x xs d = ap (λ (b : Bool). b || has k xs) (ne-eqb k x d)
 pub has-cons : (k x : ℕ) (xs : List ℕ) → has k (x ∷ xs) ≡ true → (k ≡ x) ⊎ (has k xs ≡ true)
 has-cons k x xs h = ⊎-elim (λ t. inl (eqb-true k x t)) (λ t. inr (sym (has-other k x xs (eqb-false k x t)) ∙ h)) (known (eqb k x))
 
+pub or-true : (b : Bool) → (b || true) ≡ true
+or-true true = refl
+or-true false = refl
+
 pub has-tail : (k x : ℕ) (xs : List ℕ) → has k xs ≡ true → has k (x ∷ xs) ≡ true
 unfolding has
-has-tail k x xs h = ap (λ (b : Bool). eqb k x || b) h ∙ or (eqb k x)
-  where
-    or : (b : Bool) → (b || true) ≡ true
-    or true = refl
-    or false = refl
+has-tail k x xs h = ap (λ (b : Bool). eqb k x || b) h ∙ or-true (eqb k x)
 
 pub lacks : (k x : ℕ) (xs : List ℕ) → has k (x ∷ xs) ≡ false → (k ≡ x → ⊥) × (has k xs ≡ false)
 lacks k x xs h =

@@ -16,7 +16,8 @@ use Rattle.bdz_table.specs.Occupancy.{withBit, occupancyOf}
 use Rattle.bdz_table.specs.Peel.{Cut, atsOf}
 use Rattle.bdz_table.specs.Steps.{cutsOf, orderOf, Notable, Noted}
 use Rattle.bdz_table.proofs.Bits.{occupancy-none, occupancy-more, length-withBit}
-use Rattle.bdz_table.proofs.Has.{lt-or-ge, has-head, has-tail, has-cons, clash}
+use Rattle.bdz_table.proofs.Fold.{clash}
+use Rattle.bdz_table.proofs.Has.{lt-or-ge, has-head, has-tail, has-cons}
 
 -- ---- noting
 

@@ -10,7 +10,8 @@ use lib.ListN.{length, getD}
 use Rattle.bdz_table.specs.Graph.{has, Graph}
 use Rattle.bdz_table.specs.Peel.{Cut, peel, atsOf}
 use Rattle.bdz_table.specs.Steps.{cutsOf}
-use Rattle.bdz_table.proofs.Has.{clash, has-cons, distinct-short}
+use Rattle.bdz_table.proofs.Fold.{clash}
+use Rattle.bdz_table.proofs.Has.{has-cons, distinct-short}
 use Rattle.bdz_table.proofs.Core.{Cuts}
 use Rattle.bdz_table.proofs.Queue.{peel-end}
 use Rattle.bdz_table.proofs.Assigned.{ats-distinct}

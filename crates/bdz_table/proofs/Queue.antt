@@ -13,7 +13,8 @@ use lib.ListN.{length, getD, drop, drop-of-length-le}
 use lib.Seq.{drop-cons, drop-append-le}
 use Rattle.bdz_table.specs.Graph.{has, Distinct, degree, xorAt, Peelable, Graph}
 use Rattle.bdz_table.specs.Peel.{Cut, keysOf, keepIf, ones, State, turnIf, turn, turnsIf, turns, upTo, peel}
-use Rattle.bdz_table.proofs.Has.{clash, known, has-head, has-other, has-cons, has-tail, has-append-l, has-append-r, has-append-cases, distinct-append, distinct-short, distinct-missing}
+use Rattle.bdz_table.proofs.Fold.{clash}
+use Rattle.bdz_table.proofs.Has.{known, has-head, has-other, has-cons, has-tail, has-append-l, has-append-r, has-append-cases, distinct-append, distinct-short, distinct-missing}
 use Rattle.bdz_table.proofs.Core.{degree-on, degree-off, degree-falls, CutOf, cut-of, Cuts, keys-distinct, keys-below, keys-length, peelable-of, not-peelable}
 
 -- ---- the vertices of degree 1 among some

@@ -18,8 +18,8 @@ use Rattle.bdz_table.specs.Keys.{graphOf}
 use Rattle.bdz_table.specs.Peel.{peel}
 use Rattle.bdz_table.specs.Seeds.{Fails, anyTo, crowded, peelsAll, worksAt, firstFrom, firstSeed}
 use Rattle.bdz_table.specs.Steps.{PeelAnswer, SeedAnswer}
-use Rattle.bdz_table.proofs.Fold.{count-none}
-use Rattle.bdz_table.proofs.Has.{clash, known, lt-or-ge}
+use Rattle.bdz_table.proofs.Fold.{clash, count-none}
+use Rattle.bdz_table.proofs.Has.{known, lt-or-ge, or-true}
 use Rattle.bdz_table.proofs.Queue.{peel-yes, peel-no}
 use Rattle.bdz_table.proofs.Turning.{cuts-length}
 use Rattle.bdz_table.proofs.Counting.{graph-of}
@@ -39,10 +39,6 @@ any-some p (suc m) v l h =
     let e : v ≡ m = omega arith in
     let q : p m ≡ true = rw (← e) h in
     rw q (or-true (anyTo p m))) (lt-or-ge v m)
-  where
-    or-true : (b : Bool) → (b || true) ≡ true
-    or-true true = refl
-    or-true false = refl
 
 any-found : (p : ℕ → Bool) (m : ℕ) → anyTo p m ≡ true → (v : ℕ) × (p v ≡ true)
 unfolding anyTo
