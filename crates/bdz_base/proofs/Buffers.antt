@@ -4,7 +4,7 @@ use mathlib.Core.List.{List, [], _∷_}
 use Prim.Native.Nat.{ℕ, zero, suc, _+_, _*_, _≤_, _<_}
 use native.Mathlib.Numerals.{add-one}
 use native.Mathlib.Omega.{arith}
-use lib.ListN.{length, getD, set, drop, length-append, length-drop}
+use lib.ListN.{length, getD, set, drop, length-append, length-drop, length-set}
 use lib.Seq.{drop-cons, set-at, append-snoc}
 use Rattle.bdz_base.specs.Buffer.{tab, over}
 
@@ -34,3 +34,21 @@ tab-three f i old h p q r =
     let s : 3 * i + 1 + 1 ≡ 3 * i + 2 = omega arith in
     let t : 3 * i + 2 + 1 ≡ 3 * (i + 1) = omega arith in
     rw (tab-more f (3 * i) old (omega arith) p, tab-more f (3 * i + 1) old (omega arith) q, s, tab-more f (3 * i + 2) old h r, t)
+
+-- of n elements the first i are written
+pub record Filled (f : ℕ → ℕ) (n i : ℕ) (old new : List ℕ) : Type 0 where
+  pub upto : i ≤ n
+  pub long : length new ≡ length old
+  pub is : new ≡ over (tab f i) old
+
+pub filled-none : (f : ℕ → ℕ) (n : ℕ) (old : List ℕ) → Filled f n 0 old old
+filled-none f n old = record { upto = omega arith; long = refl; is = tab-none f old }
+
+pub filled-more : {f : ℕ → ℕ} {n i x : ℕ} {old new : List ℕ} → Filled f n i old new → i < n → n ≤ length old → x ≡ f i → Filled f n (i + 1) old (set new i x)
+filled-more {f} {n} {i} {x} {old} {new} w h k e =
+    record { upto = omega arith; long = length-set new i x ∙ w .long; is = rw (w .is) (tab-more f i old (omega arith) e) }
+
+pub filled-all : {f : ℕ → ℕ} {n i : ℕ} {old new : List ℕ} → Filled f n i old new → n ≤ i → new ≡ over (tab f n) old
+filled-all {f} {n} {i} {old} {new} w h =
+    let e : i ≡ n = omega (arith, w .upto) in
+    rw (← e) (w .is)

@@ -1,12 +1,12 @@
 -- Words of a width, packed low bits first. The table is one number: the words are its digits in base 2^width, and the bytes
 -- its digits in base 2^8. Assumes nothing.
 use mathlib.Core.Path.{_≡_}
-use mathlib.Core.Bool.{cond, _||_}
+use mathlib.Core.Bool.{_||_}
 use mathlib.Core.List.{List, [], _∷_}
 use Prim.Native.Nat.{ℕ, zero, suc, _+_, _*_, _/_, _%_, _^_, min}
 use lib.Dec.{eqb, ltb}
 use lib.ListN.{length}
-use Rattle.bdz_base.specs.Buffer.{over}
+use Rattle.bdz_base.specs.Buffer.{written}
 use Rattle.bdz_base.specs.Refusal.{refuse}
 use Rattle.bdz_base.specs.Sizes.{tableBytes}
 
@@ -45,9 +45,8 @@ packNo w words body =
     (refuse 14 (ltb (length body) (tableBytes w (length words)))
     0)
 
--- "Any other refused call changes nothing. Past the needed part no buffer changes."
 unfoldable pub afterPack : ℕ → List ℕ → List ℕ → List ℕ
-afterPack w words body = cond (eqb (packNo w words body) 0) (over (packOf w words) body) body
+afterPack w words body = written (packNo w words body) (packOf w words) body
 
 -- the packer's whole promise: its number, and the body afterwards
 pub record Packed (w : ℕ) (words body : List ℕ) (number : ℕ) (after : List ℕ) : Type 0 where

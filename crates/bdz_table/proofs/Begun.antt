@@ -11,13 +11,13 @@ use borrow.Author.Tests.{ne-eqb, le-ltb, eqb-true, eqb-false, ltb-true, ltb-fals
 use lib.Dec.{eqb, ltb}
 use lib.ListN.{length, getD, set, take, drop, replicate, length-set, length-replicate, length-append, length-drop, take-append-drop}
 use lib.Seq.{length-take-le}
-use Rattle.bdz_base.specs.Buffer.{over}
+use Rattle.bdz_base.specs.Buffer.{over, written}
 use Rattle.bdz_base.specs.Refusal.{refuse, accept}
 use Rattle.bdz_base.specs.Sizes.{occupancyBytes}
 use Rattle.bdz_base.specs.declared.verts.Kind.{Kind}
 use Rattle.bdz_base.specs.declared.verts.Kind.the-variants.{Assigned, Compact}
 use Rattle.bdz_table.specs.Assign.{assign}
-use Rattle.bdz_table.specs.Build.{verticesFor, needsOf, lacksRoom, assignedEarly, compactEarly, begun, lateNo, buildNo, seedFor, widthFor, indexFor, refusedBuild, builtFor, BuiltTo, wordsFor, assignedTable, compactTable, compactOccupancy, written, lengthsOf}
+use Rattle.bdz_table.specs.Build.{verticesFor, needsOf, lacksRoom, assignedEarly, compactEarly, begun, lateNo, buildNo, seedFor, widthFor, indexFor, refusedBuild, builtFor, BuiltTo, wordsFor, assignedTable, compactTable, compactOccupancy, lengthsOf}
 use Rattle.bdz_table.specs.Graph.{has}
 use Rattle.bdz_table.specs.Peel.{Cut}
 use Rattle.bdz_table.specs.Steps.{Shaped, RanTo, newIf}

@@ -5,7 +5,7 @@ use mathlib.Core.List.{List, [], _∷_}
 use Prim.Native.Nat.{ℕ, _^_}
 use lib.Dec.{eqb, ltb}
 use lib.ListN.{length, getD, replicate}
-use Rattle.bdz_base.specs.Buffer.{over}
+use Rattle.bdz_base.specs.Buffer.{over, written}
 use Rattle.bdz_base.specs.Mix.{seedAt}
 use Rattle.bdz_base.specs.Refusal.{refuse, accept}
 use Rattle.bdz_base.specs.Sizes.{assignedSize, compactSize, occupancyBytes}
@@ -171,10 +171,6 @@ compactOccupancy keys =
     (occupancyOf (verticesFor Compact (length keys)) (atsOf (cutsFor Compact keys))))
 
 -- ---- the lent buffers afterwards
-
--- "After a refused build, table and occupancy are unchanged"
-abbrev pub written : ℕ → List ℕ → List ℕ → List ℕ
-written number new old = cond (eqb number 0) (over new old) old
 
 -- "Once check 14 is passed, the needed part of each scratch buffer ends as zeros, accepted or not"
 abbrev pub cleared : Bool → ℕ → List ℕ → List ℕ
