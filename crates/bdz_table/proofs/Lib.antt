@@ -14,10 +14,14 @@ pub mod Leaving
 pub mod Mapped
 pub mod NeedLaws
 pub mod Noting
+pub mod Numbers
 pub mod OneAnswer
+pub mod Ones
 pub mod Order
 pub mod Ordering
+pub mod Passed
 pub mod Queue
+pub mod Ranks
 pub mod Runs
 pub mod Tries
 pub mod Turning

@@ -2,8 +2,10 @@ pub mod Assign
 pub mod Build
 pub mod Graph
 pub mod Keys
+pub mod Lookup
 pub mod Occupancy
 pub mod Peel
+pub mod Rank
 pub mod Seeds
 pub mod Steps
 pub mod Values

@@ -1,4 +1,4 @@
-// What an index is beside its lent slices, what a build answers, and what it has to be lent.
+// What an index is beside its lent slices, what builds and lookups answer, and what a build has to be lent.
 use bdz_base::verts::Kind;
 
 pub struct Index {
@@ -14,6 +14,12 @@ pub struct Index {
 pub struct Built {
     pub no: u32,
     pub index: Index,
+}
+
+// A refusal number, or 0 and the answer.
+pub struct Answer {
+    pub no: u32,
+    pub answer: u32,
 }
 
 // What a build needs: words of the table; words or bytes a vertex of xors, queue, degrees and marks; pairs of the order;

@@ -1,10 +1,12 @@
-// Tables: peeling, both assigns, and the builds.
+// Tables: peeling, both assigns, the builds, ranks and lookups.
 pub mod assign;
 pub mod build;
 pub mod index;
+pub mod lookup;
 pub mod needs;
 pub mod occ;
 pub mod peel;
+pub mod rank;
 pub mod scratch;
 pub mod seeds;
 pub mod seen;

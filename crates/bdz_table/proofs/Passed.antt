@@ -1,0 +1,100 @@
+-- What is known once super counts or a lookup are not refused, and what the answers then are. Assumes nothing.
+use mathlib.Core.Path.{_≡_}
+use mathlib.Core.List.{List}
+use Prim.Native.Nat.{ℕ, zero, suc, _%_, _≤_, _<_}
+use native.Mathlib.Nat.{mod-lt, min-eq-left}
+use native.Mathlib.Omega.{arith}
+use lib.Dec.{eqb, ltb}
+use lib.ListN.{length, getD}
+use borrow.Author.Tests.{ltb-false, eqb-false, ne-eqb, lt-ltb, le-ltb}
+use Rattle.bdz_base.specs.Buffer.{tab, over}
+use Rattle.bdz_base.specs.Sizes.{occupancyBytes, superCount}
+use Rattle.bdz_base.specs.Verts.{Below}
+use Rattle.bdz_base.specs.declared.verts.Kind.the-variants.{Assigned, Compact}
+use Rattle.bdz_base.specs.declared.verts.Verts.{Verts}
+use Rattle.bdz_table.specs.Keys.{listed}
+use Rattle.bdz_table.specs.Lookup.{roomNo, lookupNo, sumOf, pickedOf, assignedAnswer, compactAnswer, fewAnswer, answerOf, answersOf}
+use Rattle.bdz_table.specs.Rank.{supersNo, rankWith, rankedOf}
+use Rattle.bdz_table.specs.declared.index.Index.{Index}
+use Rattle.bdz_table.proofs.Begun.{refuse-none}
+
+pub supers-passed : (m occ supers : ℕ) → supersNo m occ supers ≡ 0 → (occupancyBytes m ≤ occ) × (superCount m ≤ supers)
+unfolding supersNo
+supers-passed m occ supers e =
+    let a = refuse-none 11 (ltb occ (occupancyBytes m)) _ e in
+    let b = refuse-none 13 (ltb supers (superCount m)) 0 (a .1) in
+    (ltb-false occ (occupancyBytes m) (a .0), ltb-false supers (superCount m) (b .0))
+
+pub supers-accepted : (m occ supers : ℕ) → occupancyBytes m ≤ occ → superCount m ≤ supers → supersNo m occ supers ≡ 0
+unfolding supersNo
+supers-accepted m occ supers h k = rw (le-ltb occ (occupancyBytes m) h, le-ltb supers (superCount m) k)
+
+-- so a rank up to m is what the lent super counts give
+pub ranked-inside : (m : ℕ) (occ supers : List ℕ) (v : ℕ) → occupancyBytes m ≤ length occ → superCount m ≤ length supers → v ≤ m → rankedOf m occ supers v ≡ record { no = 0; answer = rankWith occ supers v }
+unfolding rankedOf
+ranked-inside m occ supers v h k l = rw (supers-accepted m (length occ) (length supers) h k, min-eq-left l)
+
+-- the vertex that a sum picks is one of the key's
+pub picked-below : (table : List ℕ) {m : ℕ} {v : Verts} → Below m v → pickedOf table (listed v) < m
+unfolding pickedOf
+picked-below table {m} {v} b = go (sumOf table (listed v) % 3) (mod-lt (sumOf table (listed v)) (omega arith))
+  where
+    go : (i : ℕ) → i < 3 → getD (listed v) i 0 < m
+    go zero h = b .a-below
+    go (suc zero) h = b .b-below
+    go (suc (suc zero)) h = b .c-below
+    go (suc (suc (suc i))) h = absurd (omega arith)
+
+-- an answer for each key has room
+pub answers-fit : (index : Index) (keys table occ supers out : ℕ) → (keys ≡ 0 → ⊥) → lookupNo index keys table occ supers out ≡ 0 → keys ≤ out
+unfolding lookupNo
+answers-fit index keys table occ supers out some e =
+    let a = refuse-none 13 (ltb out keys) _ (rw (ne-eqb keys 0 some) at e) in
+    ltb-false out keys (a .0)
+
+-- an index of two keys or more that is asked for a key
+pub record Asked (index : Index) (table occ supers : ℕ) : Type 0 where
+  pub vertices : 0 < index .m
+  pub modulus : 0 < index .modulus
+  pub room : roomNo (index .kind) (index .m) table occ supers ≡ 0
+
+pub asked : (index : Index) (keys table occ supers out : ℕ) → (keys ≡ 0 → ⊥) → 2 ≤ index .n → lookupNo index keys table occ supers out ≡ 0 → Asked index table occ supers
+unfolding lookupNo
+asked index keys table occ supers out some many e =
+    let a = refuse-none 13 (ltb out keys) _ (rw (ne-eqb keys 0 some) at e) in
+    let b = refuse-none 10 (eqb (index .m) 0) _ (rw (le-ltb (index .n) 2 many) at (a .1)) in
+    let c = refuse-none 10 (eqb (index .modulus) 0) _ (b .1) in
+    let x : index .m ≡ 0 → ⊥ = eqb-false (index .m) 0 (b .0) in
+    let y : index .modulus ≡ 0 → ⊥ = eqb-false (index .modulus) 0 (c .0) in
+    record { vertices = omega arith; modulus = omega arith; room = c .1 }
+
+pub room-assigned : (m table occ supers : ℕ) → roomNo Assigned m table occ supers ≡ 0 → m ≤ table
+unfolding roomNo
+room-assigned m table occ supers e = ltb-false table m (refuse-none 13 (ltb table m) 0 e .0)
+
+pub room-compact : (m table occ supers : ℕ) → roomNo Compact m table occ supers ≡ 0 → (occupancyBytes m ≤ occ) × (m ≤ table) × (superCount m ≤ supers)
+unfolding roomNo
+room-compact m table occ supers e =
+    let a = refuse-none 11 (ltb occ (occupancyBytes m)) _ e in
+    let b = refuse-none 13 (ltb table m) _ (a .1) in
+    let c = refuse-none 13 (ltb supers (superCount m)) 0 (b .1) in
+    (ltb-false occ (occupancyBytes m) (a .0), ltb-false table m (b .0), ltb-false supers (superCount m) (c .0))
+
+-- ---- the answers
+
+module _ (index : Index) (table occ supers keys : List ℕ) where
+  pub answers-none : (old : List ℕ) → length keys ≡ 0 → old ≡ over (answersOf index table occ supers keys) old
+  unfolding tab
+  answers-none old e = rw e
+
+  pub answers-few : index .n < 2 → answersOf index table occ supers keys ≡ tab (λ i. fewAnswer (index .kind) (index .n) table) (length keys)
+  unfolding answerOf
+  answers-few h = rw (lt-ltb (index .n) 2 h)
+
+  pub answers-assigned : 2 ≤ index .n → index .kind ≡ Assigned → answersOf index table occ supers keys ≡ tab (λ i. assignedAnswer (index .seed) (index .m) (index .modulus) table (getD keys i 0)) (length keys)
+  unfolding answerOf
+  answers-assigned h e = rw (le-ltb (index .n) 2 h, e)
+
+  pub answers-compact : 2 ≤ index .n → index .kind ≡ Compact → answersOf index table occ supers keys ≡ tab (λ i. compactAnswer (index .seed) (index .m) (index .n) table occ supers (getD keys i 0)) (length keys)
+  unfolding answerOf
+  answers-compact h e = rw (le-ltb (index .n) 2 h, e)
