@@ -25,5 +25,6 @@ pub mod Ranks
 pub mod Runs
 pub mod Tries
 pub mod Turning
+pub mod Views
 pub mod Words
 pub mod Zeroing

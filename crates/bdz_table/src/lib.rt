@@ -10,3 +10,4 @@ pub mod rank;
 pub mod scratch;
 pub mod seeds;
 pub mod seen;
+pub mod view;

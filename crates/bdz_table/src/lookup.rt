@@ -9,7 +9,7 @@ ghost use Rattle.bdz_table.specs.Keys.{listed};
 ghost use Rattle.bdz_table.specs.Lookup.{roomNo, lookupNo, sumOf, assignedAnswer, compactAnswer, oneAnswer, fewAnswer, answersOf, LookedUp};
 use super::index::Index;
 use super::rank::fewer;
-use super::rank::rank_at;
+use super::view::rank1;
 use bdz_base::refusal::ACCEPTED;
 use bdz_base::refusal::NO_ROOM;
 use bdz_base::refusal::OCC_TRUNCATED;
@@ -116,7 +116,7 @@ fn compact_answer(
 {
     let v = hash_verts(key, seed, m, Kind::Compact);
     let at = vertex_at(v, sum_words(table, v) % 3);
-    let ranked = rank_at(occ, supers, m, at);
+    let ranked = rank1(occ, supers, m, at);
     fewer(ranked.answer, n - 1)
 }
 

@@ -24,8 +24,8 @@ sum-words-requires c κs =
 vertex-at-requires : tie.Need-vertex-at-requires
 vertex-at-requires c κs = search needs
 
-rank-at-requires : tie.Need-rank-at-requires
-rank-at-requires c κs = search needs
+rank1-requires : tie.Need-rank1-requires
+rank1-requires c κs = search needs
 
 sub-fewer : tie.Need-sub-fewer
 sub-fewer c = search needs
@@ -42,7 +42,7 @@ returns c =
     let at : c .before .before .vertex-at .result ≡ pickedOf (a .table .now) vertices = c .before .before .vertex-at .ensures ∙ rw (c .before .before .before .sum-words .ensures, at4 .hash-verts .ensures) in
     let low = picked-below (a .table .now) (vertices-below Compact (a .key) (a .seed) (a .m) (omega arith)) in
     let ranked = ranked-inside (a .m) (a .occ .now) (a .supers .now) (pickedOf (a .table .now) vertices) (omega arith) (omega arith) (omega arith) in
-    rw (c .fewer .ensures, c .before .rank-at .ensures, at, ranked)
+    rw (c .fewer .ensures, c .before .rank1 .ensures, at, ranked)
 
 pub compact-answer-spec : {M : Type 1} → statement M
 compact-answer-spec =
@@ -51,7 +51,7 @@ compact-answer-spec =
     hash-verts-requires
     sum-words-requires
     vertex-at-requires
-    rank-at-requires
+    rank1-requires
     sub-fewer
     fewer-requires
     returns)
