@@ -1,4 +1,5 @@
 -- Each exported promise leaves one answer. Assumes nothing.
+use mathlib.Core.List.{[], _∷_}
 use mathlib.Core.Path.{refl, sym, _∙_}
 use Rattle.bdz_base.proofs.OneAnswer.{OneResult, OneOutcome}
 use Rattle.bdz_oracle.proofs.hashing.bdz_splitmix64.Reads as bdz-splitmix64
@@ -14,6 +15,11 @@ use Rattle.bdz_oracle.proofs.hashing.bdz_super_count.Reads as bdz-super
 use Rattle.bdz_oracle.proofs.packing.bdz_extract_g_window.Reads as bdz-extract-g-window
 use Rattle.bdz_oracle.proofs.packing.bdz_unpack_g_at.Reads as bdz-unpack-g-at
 use Rattle.bdz_oracle.proofs.hashing.bdz_hash_verts.Reads as bdz-hash-verts
+use Rattle.bdz_oracle.proofs.looking.bdz_index_batch.Reads as bdz-index-batch
+use Rattle.bdz_oracle.proofs.looking.bdz_popcount_bits.Reads as bdz-popcount-bits
+use Rattle.bdz_oracle.proofs.looking.bdz_rank1.Reads as bdz-rank1
+use Rattle.bdz_oracle.proofs.looking.bdz_rank1_no.Reads as bdz-rank1-no
+use Rattle.bdz_oracle.proofs.looking.bdz_supers_from_occ_bytes.Reads as bdz-supers-from-occ-bytes
 use Rattle.bdz_oracle.proofs.packing.bdz_pack_g.Reads as bdz-pack-g
 use Rattle.bdz_oracle.proofs.packing.bdz_unpack_g.Reads as bdz-unpack-g
 use Rattle.bdz_oracle.proofs.building.bdz_build_assigned.Reads as bdz-build-assigned
@@ -65,6 +71,21 @@ one-bdz-pack-g κs a x y s t p q = (p .number-is ∙ sym (q .number-is), p .afte
 
 pub one-bdz-unpack-g : (κs : _) (a : _) → OneOutcome (λ s. s .1 .1 .0 .now) (bdz-unpack-g.Post κs a)
 one-bdz-unpack-g κs a x y s t p q = (refl, p ∙ sym q)
+
+pub one-bdz-popcount-bits : (κs : _) (a : _) → OneResult (bdz-popcount-bits.Post κs a)
+one-bdz-popcount-bits κs a x y s t p q = p ∙ sym q
+
+pub one-bdz-supers-from-occ-bytes : (κs : _) (a : _) → OneOutcome (λ s. s .1 .1 .0 .now) (bdz-supers-from-occ-bytes.Post κs a)
+one-bdz-supers-from-occ-bytes κs a x y s t p q = (p .number-is ∙ sym (q .number-is), p .after-is ∙ sym (q .after-is))
+
+pub one-bdz-rank1 : (κs : _) (a : _) → OneResult (bdz-rank1.Post κs a)
+one-bdz-rank1 κs a x y s t p q = p ∙ sym q
+
+pub one-bdz-rank1-no : (κs : _) (a : _) → OneResult (bdz-rank1-no.Post κs a)
+one-bdz-rank1-no κs a x y s t p q = p ∙ sym q
+
+pub one-bdz-index-batch : (κs : _) (a : _) → OneOutcome (λ s. (s .1 .1 .1 .1 .1 .1 .1 .1 .1 .0 .now ∷ s .1 .1 .1 .1 .1 .1 .1 .1 .1 .1 .0 .now ∷ [])) (bdz-index-batch.Post κs a)
+one-bdz-index-batch κs a x y s t p q = (p .number-is ∙ sym (q .number-is), rw (p .key-room-is, p .out-is, q .key-room-is, q .out-is))
 
 pub one-bdz-build-assigned : (κs : _) (a : _) → OneOutcome {B = AssignedLists} (λ s. (s .1 .1 .1 .0 .now, s .1 .1 .1 .1 .0 .now, s .1 .1 .1 .1 .1 .0 .now, s .1 .1 .1 .1 .1 .1 .0 .now, s .1 .1 .1 .1 .1 .1 .1 .0 .now, s .1 .1 .1 .1 .1 .1 .1 .1 .0 .now, s .1 .1 .1 .1 .1 .1 .1 .1 .1 .0 .now, s .1 .1 .1 .1 .1 .1 .1 .1 .1 .1 .0 .now, s .1 .1 .1 .1 .1 .1 .1 .1 .1 .1 .1 .0 .now, s .1 .1 .1 .1 .1 .1 .1 .1 .1 .1 .1 .1 .0 .now, s .1 .1 .1 .1 .1 .1 .1 .1 .1 .1 .1 .1 .1 .0 .now)) (bdz-build-assigned.Post κs a)
 one-bdz-build-assigned κs a x y s t p q =

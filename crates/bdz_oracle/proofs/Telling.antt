@@ -1,4 +1,4 @@
--- Keys and values read from their bytes, the words of an answer, and the returns of both exported builds. Assumes nothing.
+-- Keys and values read from their bytes, the words of an answer, and the returns of the exported builds and lookup. Assumes nothing.
 use mathlib.Core.Path.{_≡_, refl}
 use mathlib.Core.Bool.{true, false}
 use mathlib.Core.List.{List, [], _∷_}
@@ -12,9 +12,12 @@ use Rattle.bdz_base.specs.Pack.{bitsAt}
 use Rattle.bdz_base.proofs.Buffers.{length-tab}
 use Rattle.bdz_base.proofs.Digits.{bits-part}
 use Rattle.bdz_table.specs.Build.{BuiltAssigned, BuiltCompact}
+use Rattle.bdz_table.specs.Lookup.{LookedUp}
 use Rattle.bdz_table.specs.declared.index.Built.{Built}
+use Rattle.bdz_table.specs.declared.index.Index.{Index}
 use Rattle.bdz_oracle.specs.Keys.{keyCount, keyAt}
 use Rattle.bdz_oracle.specs.Building.{valueAt, valueCount, keysIn, valuesIn, fieldsOf, lacksAssigned, lacksCompact, ToldAssigned, ToldCompact}
+use Rattle.bdz_oracle.specs.Looking.{lacksKeys, lookNo, ToldLookup}
 
 -- key i is read from its own eight bytes
 pub key-here : (bytes : List ℕ) (i : ℕ) {x : ℕ} → x ≡ bitsAt 64 (take (i * 8 + 8 - i * 8) (drop (i * 8) bytes)) (0 * 8) → x ≡ keyAt bytes i
@@ -68,3 +71,19 @@ pub some-compact : (bytes : List ℕ) (keyRoom table occupancy degrees xors queu
 some-compact bytes keyRoom table occupancy degrees xors queue edges verts marks answer h k b e =
     let ks = read-part (keyAt bytes) (keyCount bytes) keyRoom k in
     rw h (record { built = _; is-built = rw (ks) at b; number-is = refl; key-room-is = k; answer-is = e })
+
+-- ---- lookups
+
+-- the lookup that touches nothing
+pub no-lookup : (index : Index) (bytes table occ supers keyRoom out : List ℕ) → lacksKeys bytes keyRoom ≡ true → ToldLookup index bytes table occ supers keyRoom out 14 keyRoom out
+unfolding lookNo
+no-lookup index bytes table occ supers keyRoom out h =
+    record { number-is = rw h; key-room-is = rw h; out-is = rw h }
+
+-- and the one that is told
+pub some-lookup : (index : Index) (bytes table occ supers keyRoom out : List ℕ) {keyRoom′ out′ : List ℕ} {number : ℕ} → lacksKeys bytes keyRoom ≡ false → keyRoom′ ≡ over (keysIn bytes) keyRoom → LookedUp index (take (keyCount bytes) keyRoom′) table occ supers out number out′ → ToldLookup index bytes table occ supers keyRoom out number keyRoom′ out′
+unfolding lookNo
+some-lookup index bytes table occ supers keyRoom out h k l =
+    let ks = read-part (keyAt bytes) (keyCount bytes) keyRoom k in
+    let looked = rw ks at l in
+    record { number-is = rw h (looked .number-is); key-room-is = rw h k; out-is = rw h (looked .after-is) }

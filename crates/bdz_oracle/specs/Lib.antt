@@ -1,2 +1,3 @@
 pub mod Building
 pub mod Keys
+pub mod Looking

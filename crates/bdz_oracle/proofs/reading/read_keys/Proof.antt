@@ -1,4 +1,4 @@
--- `bdz_oracle::building::read_keys` meets its contract. The loop's invariant: i words stand in out. Assumes nothing.
+-- `bdz_oracle::reading::read_keys` meets its contract. The loop's invariant: i words stand in out. Assumes nothing.
 use Rattle.bdz_oracle.proofs.Telling.{key-here}
 use Rattle.bdz_oracle.specs.Keys.{keyAt}
 use Rattle.bdz_base.proofs.Buffers.{tab-none, tab-more}
@@ -8,8 +8,8 @@ use borrow.Author.Needs.{needs}
 use native.Mathlib.Omega.{arith}
 use Prim.Native.Nat.{_-_, _≤_}
 use mathlib.Core.Path.{_≡_, refl}
-use Rattle.bdz_oracle.proofs.building.read_keys.Statement.{statement}
-use Rattle.bdz_oracle.proofs.building.read_keys.Tie as tie
+use Rattle.bdz_oracle.proofs.reading.read_keys.Statement.{statement}
+use Rattle.bdz_oracle.proofs.reading.read_keys.Tie as tie
 
 abbrev Inv-loop : tie.InvT-loop
 Inv-loop keys n out₀ i₀ out i = (i ≤ n) × (length out ≡ length out₀) × (out ≡ over (tab (keyAt keys) i) out₀)
