@@ -35,6 +35,11 @@ bit-byte bytes v =
     rw d (bits-within (valueOf 8 bytes) (v / 8 * 8) 8 (v % 8) 1 h ∙ rw e) in
     sym w ∙ bits-low b 8 (v % 8) 1 h
 
+-- bytes behind it do not matter
+bit-append : (bytes rest : List ℕ) (v : ℕ) → v / 8 < length bytes → bitsAt 1 (bytes ++ rest) v ≡ bitsAt 1 bytes v
+bit-append bytes rest v h =
+    bit-byte (bytes ++ rest) v ∙ rw (List·getD-append bytes rest 0 (v / 8) h) (sym (bit-byte bytes v))
+
 -- the bit as code reads it
 pub bit-read : (bytes : List ℕ) (v : ℕ) → bitAnd (getD bytes (v / 8) 0 / 2 ^ (v % 8)) 1 ≡ bitsAt 1 bytes v
 bit-read bytes v = and-mask (getD bytes (v / 8) 0 / 2 ^ (v % 8)) 1 ∙ sym (bit-byte bytes v)
@@ -203,6 +208,11 @@ unfolding occupancyOf
 occupancy-bit m v ats h =
     bit-packed (tab (occupied ats) m) v
     ∙ rw (tab-at (occupied ats) m v h) (only-small (has v ats))
+
+-- whatever stands behind it
+pub occupancy-front : (m v : ℕ) (ats rest : List ℕ) → v < m → bitsAt 1 (occupancyOf m ats ++ rest) v ≡ onlyIf (has v ats) 1
+occupancy-front m v ats rest h =
+    bit-append (occupancyOf m ats) rest v (rw (length-occupancy m ats) (omega arith)) ∙ occupancy-bit m v ats h
 
 -- and no bit behind the last vertex is set
 pub occupancy-past : (m v : ℕ) (ats : List ℕ) → m ≤ v → bitsAt 1 (occupancyOf m ats) v ≡ 0

@@ -4,7 +4,7 @@ use Prim.Native.Nat.{ℕ, zero, suc, _+_, _*_, _/_, _%_, _^_, _<_, _≤_}
 use mathlib.Core.Path.{_≡_, refl, sym, ap, _∙_}
 use mathlib.Core.Logic.{_↔_, ⊎-elim}
 use mathlib.Core.Bool.{Bool, true, false, not, cond, _&&_}
-use mathlib.Core.List.{List, [], _∷_}
+use mathlib.Core.List.{List, [], _∷_, _++_}
 use native.Mathlib.Nat.{mul-one}
 use native.Mathlib.Omega.{arith}
 use borrow.Author.Tests.{ne-eqb, lt-ltb, le-ltb, eqb-true, eqb-false}
@@ -19,7 +19,7 @@ use Rattle.bdz_base.specs.declared.verts.Verts.{Verts}
 use Rattle.bdz_base.proofs.VertexLaws.{vertices-in-parts}
 use Rattle.bdz_table.specs.Assign.{sumAt, wordFor, assign, partOf, looked, Sums}
 use Rattle.bdz_table.specs.Build.{verticesFor, assignedEarly, compactEarly, stuck, lateNo, buildNo, seedFor, cutsFor, wordsFor, assignedTable, compactTable, compactOccupancy}
-use Rattle.bdz_table.specs.Graph.{has, Distinct, onlyIf, Graph}
+use Rattle.bdz_table.specs.Graph.{has, Distinct, onlyIf, countTo, Graph}
 use Rattle.bdz_table.specs.Keys.{listed, graphOf}
 use Rattle.bdz_table.specs.Peel.{Cut, keysOf, atsOf, peel}
 use Rattle.bdz_table.specs.Seeds.{crowded, peelsAll, worksAt, firstSeed}
@@ -31,12 +31,13 @@ use Rattle.bdz_table.proofs.Bits.{occupancy-bit}
 use Rattle.bdz_table.proofs.Core.{CutOf, Cuts, keys-distinct, keys-below, keys-length}
 use Rattle.bdz_table.proofs.Counting.{three-cases, graph-of, graph-few}
 use Rattle.bdz_table.proofs.Fold.{clash}
-use Rattle.bdz_table.proofs.Has.{has-cons, has-head, has-tail, distinct-full}
+use Rattle.bdz_table.proofs.Has.{has-cons, has-head, has-tail, count-has, distinct-full}
 use Rattle.bdz_table.proofs.NeedLaws.{vertices-more}
+use Rattle.bdz_table.proofs.Order.{ats-below, ats-length}
 use Rattle.bdz_table.proofs.Queue.{peel-end}
 use Rattle.bdz_table.proofs.Runs.{part-below, many-assigned-table, many-compact-table, many-occupancy}
 use Rattle.bdz_table.proofs.Tries.{first-is}
-use Rattle.bdz_table.proofs.Words.{word-below}
+use Rattle.bdz_table.proofs.Words.{sum-front, word-below}
 use Rattle.bdz_table.proofs.Zeroing.{replicate-zero}
 
 -- ---- an accepted build
@@ -131,6 +132,10 @@ module _ (kind : Kind) (keys : List ℕ) (many : 2 ≤ length keys) where
   pub graph-is : Graph graph (length keys) size
   graph-is = graph-of kind keys (seedFor kind keys) (length keys) size (omega (arith, vertices-more kind (length keys) many))
 
+  -- words behind a table do not count
+  pub sum-behind : (g rest : List ℕ) → length g ≡ size → (e : ℕ) → e < length keys → sumAt (g ++ rest) (graph e) ≡ sumAt g (graph e)
+  sum-behind g rest t e l = sum-front g rest (graph e) (λ u k. rw t (graph-is .inside e u l k))
+
   pub cuts-are : Cuts graph (length keys) (cutsFor kind keys)
   unfolding cutsFor
   cuts-are = peel-end graph (length keys) size graph-is .cuts
@@ -140,6 +145,13 @@ module _ (kind : Kind) (keys : List ℕ) (many : 2 ≤ length keys) where
   all-cut l =
       let d = cutsFor kind keys in
       distinct-full (length keys) (keysOf d) (keys-distinct graph (length keys) d cuts-are) (keys-below graph (length keys) d cuts-are) (keys-length d ∙ l)
+
+  -- by as many vertices as there are keys
+  pub ats-counted : length (cutsFor kind keys) ≡ length keys → countTo (λ v. has v (atsOf (cutsFor kind keys))) size ≡ length keys
+  ats-counted l =
+      let d = cutsFor kind keys in
+      count-has size (atsOf d) (ats-distinct graph (length keys) size graph-is d cuts-are) (ats-below graph (length keys) size graph-is d cuts-are)
+      ∙ ats-length graph (length keys) size graph-is d ∙ l
 
   -- and comes to its cut's value
   pub sums-are : (M : ℕ) (val : Cut → ℕ) → ((p : Cut) → p .key < length keys → has (p .at) (graph (p .key)) ≡ true → val p < M) → Sums graph M val (wordsFor kind keys M val) (cutsFor kind keys)

@@ -1,4 +1,5 @@
 pub mod AddKey
+pub mod Answered
 pub mod Answers
 pub mod Assigned
 pub mod Begun

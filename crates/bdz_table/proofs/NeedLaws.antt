@@ -51,6 +51,10 @@ vertices-many kind n h = simp (ne-eqb n 0 (omega arith), ne-eqb n 1 (omega arith
 pub vertices-more : (kind : Kind) (n : ℕ) → 2 ≤ n → n + 3 ≤ verticesFor kind n
 vertices-more kind n h = rw (vertices-many kind n h) (size-more kind n)
 
+pub vertices-none : (kind : Kind) → verticesFor kind 0 ≡ 0
+unfolding verticesFor
+vertices-none kind = refl
+
 pub vertices-one : (kind : Kind) → verticesFor kind 1 ≡ 1
 unfolding verticesFor
 vertices-one kind = refl

@@ -18,12 +18,12 @@ use Rattle.bdz_table.proofs.Assigned.{ats-distinct}
 use Rattle.bdz_table.proofs.Turning.{cuts-length}
 
 module _ (vs : ℕ → List ℕ) (n m : ℕ) (G : Graph vs n m) where
-  ats-below : (d : List Cut) → Cuts vs n d → (v : ℕ) → has v (atsOf d) ≡ true → v < m
+  pub ats-below : (d : List Cut) → Cuts vs n d → (v : ℕ) → has v (atsOf d) ≡ true → v < m
   unfolding Cuts atsOf has
   ats-below [] c v h = clash h refl
   ats-below (p ∷ d) c v h = ⊎-elim (λ w. omega (arith, G .inside (p .key) (p .at) (c .0 .below) (c .0 .on))) (λ t. ats-below d (c .1) v t) (has-cons v (p .at) (atsOf d) h)
 
-  ats-length : (d : List Cut) → length (atsOf d) ≡ length d
+  pub ats-length : (d : List Cut) → length (atsOf d) ≡ length d
   unfolding atsOf
   ats-length [] = refl
   ats-length (p ∷ d) = ap suc (ats-length d)

@@ -1,5 +1,7 @@
 -- What is known once super counts or a lookup are not refused, and what the answers then are. Assumes nothing.
-use mathlib.Core.Path.{_≡_}
+use mathlib.Core.Path.{_≡_, refl}
+use mathlib.Core.Logic.{⊎-elim}
+use mathlib.Core.Bool.{Bool, true, false}
 use mathlib.Core.List.{List}
 use Prim.Native.Nat.{ℕ, zero, suc, _%_, _≤_, _<_}
 use native.Mathlib.Nat.{mod-lt, min-eq-left}
@@ -8,15 +10,17 @@ use lib.Dec.{eqb, ltb}
 use lib.ListN.{length, getD}
 use borrow.Author.Tests.{ltb-false, eqb-false, ne-eqb, lt-ltb, le-ltb}
 use Rattle.bdz_base.specs.Buffer.{tab, over}
+use Rattle.bdz_base.specs.Refusal.{refuse, accept}
 use Rattle.bdz_base.specs.Sizes.{occupancyBytes, superCount}
 use Rattle.bdz_base.specs.Verts.{Below}
 use Rattle.bdz_base.specs.declared.verts.Kind.the-variants.{Assigned, Compact}
 use Rattle.bdz_base.specs.declared.verts.Verts.{Verts}
 use Rattle.bdz_table.specs.Keys.{listed}
-use Rattle.bdz_table.specs.Lookup.{roomNo, lookupNo, sumOf, pickedOf, assignedAnswer, compactAnswer, fewAnswer, answerOf, answersOf}
+use Rattle.bdz_table.specs.Lookup.{roomNo, lookupNo, sumOf, pickedOf, assignedAnswer, compactAnswer, manyAnswer, fewAnswer, answerOf, answersOf}
 use Rattle.bdz_table.specs.Rank.{supersNo, rankWith, rankedOf}
 use Rattle.bdz_table.specs.declared.index.Index.{Index}
 use Rattle.bdz_table.proofs.Begun.{refuse-none}
+use Rattle.bdz_table.proofs.Has.{lt-or-ge}
 
 pub supers-passed : (m occ supers : ℕ) → supersNo m occ supers ≡ 0 → (occupancyBytes m ≤ occ) × (superCount m ≤ supers)
 unfolding supersNo
@@ -52,21 +56,42 @@ answers-fit index keys table occ supers out some e =
     let a = refuse-none 13 (ltb out keys) _ (rw (ne-eqb keys 0 some) at e) in
     ltb-false out keys (a .0)
 
--- an index of two keys or more that is asked for a key
-pub record Asked (index : Index) (table occ supers : ℕ) : Type 0 where
+-- what the checks ask of an index of two keys or more, and of the lengths that are lent with it
+pub record Fits (index : Index) (table occ supers : ℕ) : Type 0 where
   pub vertices : 0 < index .m
   pub modulus : 0 < index .modulus
   pub room : roomNo (index .kind) (index .m) table occ supers ≡ 0
 
-pub asked : (index : Index) (keys table occ supers out : ℕ) → (keys ≡ 0 → ⊥) → 2 ≤ index .n → lookupNo index keys table occ supers out ≡ 0 → Asked index table occ supers
+pub fits : (index : Index) (keys table occ supers out : ℕ) → (keys ≡ 0 → ⊥) → 2 ≤ index .n → lookupNo index keys table occ supers out ≡ 0 → Fits index table occ supers
 unfolding lookupNo
-asked index keys table occ supers out some many e =
+fits index keys table occ supers out some many e =
     let a = refuse-none 13 (ltb out keys) _ (rw (ne-eqb keys 0 some) at e) in
     let b = refuse-none 10 (eqb (index .m) 0) _ (rw (le-ltb (index .n) 2 many) at (a .1)) in
     let c = refuse-none 10 (eqb (index .modulus) 0) _ (b .1) in
     let x : index .m ≡ 0 → ⊥ = eqb-false (index .m) 0 (b .0) in
     let y : index .modulus ≡ 0 → ⊥ = eqb-false (index .modulus) 0 (c .0) in
     record { vertices = omega arith; modulus = omega arith; room = c .1 }
+
+-- and what makes a lookup accepted
+pub lookup-accepted : (index : Index) (keys table occ supers out : ℕ) → keys ≤ out → (2 ≤ index .n → Fits index table occ supers) → lookupNo index keys table occ supers out ≡ 0
+unfolding lookupNo
+lookup-accepted index keys table occ supers out h fit = go (eqb keys 0)
+  where
+    next : ℕ
+    next =
+        accept (ltb (index .n) 2)
+        (refuse 11 (eqb (index .m) 0)
+        (refuse 11 (eqb (index .modulus) 0)
+        (roomNo (index .kind) (index .m) table occ supers)))
+
+    many : 2 ≤ index .n → next ≡ 0
+    many l =
+        let p = fit l in
+        rw (le-ltb (index .n) 2 l, ne-eqb (index .m) 0 (omega (arith, p .vertices)), ne-eqb (index .modulus) 0 (omega (arith, p .modulus))) (p .room)
+
+    go : (b : Bool) → accept b (refuse 14 (ltb out keys) next) ≡ 0
+    go true = refl
+    go false = rw (le-ltb out keys h) (⊎-elim (λ l. rw (lt-ltb (index .n) 2 l)) many (lt-or-ge (index .n) 2))
 
 pub room-assigned : (m table occ supers : ℕ) → roomNo Assigned m table occ supers ≡ 0 → m ≤ table
 unfolding roomNo
@@ -81,6 +106,15 @@ room-compact m table occ supers e =
     (ltb-false occ (occupancyBytes m) (a .0), ltb-false table m (b .0), ltb-false supers (superCount m) (c .0))
 
 -- ---- the answers
+
+module _ (index : Index) (table occ supers : List ℕ) (key : ℕ) where
+  pub few-answer : index .n < 2 → answerOf index table occ supers key ≡ fewAnswer (index .kind) (index .n) table
+  unfolding answerOf
+  few-answer h = rw (lt-ltb (index .n) 2 h)
+
+  pub many-answer : 2 ≤ index .n → answerOf index table occ supers key ≡ manyAnswer (index .kind) index table occ supers key
+  unfolding answerOf
+  many-answer h = rw (le-ltb (index .n) 2 h)
 
 module _ (index : Index) (table occ supers keys : List ℕ) where
   pub answers-none : (old : List ℕ) → length keys ≡ 0 → old ≡ over (answersOf index table occ supers keys) old

@@ -1,6 +1,7 @@
 -- Ranks: how the ones below v grow, that those of occupied vertices are 0, 1, .. once each, and that super counts give them. Assumes nothing.
-use mathlib.Core.Path.{_≡_, refl, sym, ap, _∙_, subst}
+use mathlib.Core.Path.{_≡_, refl, sym, ap, ap₂, _∙_, subst}
 use mathlib.Core.Logic.{⊎-elim}
+use mathlib.Core.Bool.{Bool}
 use mathlib.Core.List.{List, _++_}
 use Prim.Native.Nat.{ℕ, zero, suc, _+_, _-_, _*_, _/_, _%_, _^_, _≤_, _<_, min}
 use native.Mathlib.Nat.{mod-lt, mod-eq-of-lt, add-zero, min-eq-left, min-le-right}
@@ -12,6 +13,7 @@ use Rattle.bdz_base.specs.Buffer.{tab}
 use Rattle.bdz_base.specs.Pack.{valueOf, bitsAt}
 use Rattle.bdz_base.specs.Sizes.{superCount}
 use Rattle.bdz_base.proofs.Buffers.{length-tab}
+use Rattle.bdz_table.specs.Graph.{onlyIf, foldTo, countTo}
 use Rattle.bdz_table.specs.Rank.{onesBelow, onesBetween, superAt, superCounts, rankWith}
 use Rattle.bdz_table.proofs.Bits.{tab-at}
 use Rattle.bdz_table.proofs.Has.{lt-or-ge}
@@ -48,6 +50,12 @@ below-mono occ v w h = omega (arith, below-add occ v w h)
 -- a set bit's rank is below that of every later place
 pub below-strict : (occ : List ℕ) (v w : ℕ) → bitsAt 1 occ v ≡ 1 → v < w → onesBelow occ v < onesBelow occ w
 below-strict occ v w b h = omega (arith, below-step occ v, below-mono occ (suc v) w (omega arith))
+
+-- where the bits tell a test, the ones are those that pass it
+pub below-count : (occ : List ℕ) (p : ℕ → Bool) (v : ℕ) → ((u : ℕ) → u < v → bitsAt 1 occ u ≡ onlyIf (p u) 1) → onesBelow occ v ≡ countTo p v
+unfolding countTo foldTo
+below-count occ p zero h = below-none occ
+below-count occ p (suc v) h = below-step occ v ∙ ap₂ _+_ (below-count occ p v (λ u l. h u (omega arith))) (h v (omega arith))
 
 -- different occupied vertices have different ranks
 pub ranks-different : (occ : List ℕ) (v w : ℕ) → bitsAt 1 occ v ≡ 1 → bitsAt 1 occ w ≡ 1 → onesBelow occ v ≡ onesBelow occ w → v ≡ w

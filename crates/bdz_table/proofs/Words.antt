@@ -1,12 +1,13 @@
 -- Summing words, and assigning them from the newest cut to the oldest. Assumes nothing.
 use Prim.Native.Nat.{ℕ, zero, suc, _+_, _-_, _*_, _%_, _<_, _≤_}
-use mathlib.Core.Path.{_≡_, refl, sym, ap, _∙_}
+use mathlib.Core.Path.{_≡_, refl, sym, ap, ap₂, _∙_}
 use mathlib.Core.Logic.{⊎-elim}
+use mathlib.Core.Bool.{true}
 use mathlib.Core.List.{List, [], _∷_, _++_}
 use native.Mathlib.Nat.{add-zero, zero-add}
 use native.Mathlib.Numerals.{add-one}
 use native.Mathlib.Omega.{arith}
-use lib.ListN.{length, getD, take, set, length-set}
+use lib.ListN.{length, getD, take, set, length-set, List·getD-append}
 use lib.Seq.{take-suc, take-all}
 use lib.Dec.{eqb}
 use borrow.Author.Tests.{eqb-true, eqb-false}
@@ -15,11 +16,12 @@ use lib.Seq.{getD-set-same, getD-set-other}
 use Rattle.bdz_base.specs.Verts.{vertsOf}
 use Rattle.bdz_base.specs.declared.verts.Kind.{Kind}
 use Rattle.bdz_base.proofs.VertexLaws.{vertices-below}
+use Rattle.bdz_table.specs.Graph.{has}
 use Rattle.bdz_table.specs.Keys.{listed}
 use Rattle.bdz_table.specs.Peel.{Cut}
 use Rattle.bdz_table.specs.Assign.{sumAt, wordFor, assign}
 use Rattle.bdz_table.specs.Steps.{orderOf, Marked, Reach, Word, Ordered}
-use Rattle.bdz_table.proofs.Has.{known}
+use Rattle.bdz_table.proofs.Has.{known, has-head, has-tail}
 use Rattle.bdz_table.proofs.Counting.{three-inside}
 use Rattle.bdz_table.proofs.AddKey.{has-getD}
 
@@ -27,6 +29,13 @@ sum-append : (g xs ys : List ℕ) → sumAt g (xs ++ ys) ≡ sumAt g xs + sumAt 
 unfolding sumAt
 sum-append g [] ys = sym (zero-add _)
 sum-append g (x ∷ xs) ys = omega (arith, sum-append g xs ys)
+
+-- words behind those of the vertices do not count
+pub sum-front : (g rest us : List ℕ) → ((u : ℕ) → has u us ≡ true → u < length g) → sumAt (g ++ rest) us ≡ sumAt g us
+unfolding sumAt
+sum-front g rest [] h = refl
+sum-front g rest (u ∷ us) h =
+    ap₂ _+_ (List·getD-append g rest 0 u (h u (has-head u us))) (sum-front g rest us (λ v t. h v (has-tail v u us t)))
 
 sum-next : (g us : List ℕ) (j : ℕ) → j < length us → sumAt g (take (j + 1) us) ≡ sumAt g (take j us) + getD g (getD us j 0) 0
 unfolding sumAt

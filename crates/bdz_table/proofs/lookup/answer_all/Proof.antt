@@ -4,7 +4,7 @@ use Prim.Native.Nat.{_-_}
 use native.Mathlib.Omega.{arith}
 use lib.ListN.{length}
 use borrow.Author.Needs.{needs}
-use Rattle.bdz_table.proofs.Passed.{answers-fit, asked, room-assigned, room-compact, answers-none, answers-few, answers-assigned, answers-compact}
+use Rattle.bdz_table.proofs.Passed.{answers-fit, fits, room-assigned, room-compact, answers-none, answers-few, answers-assigned, answers-compact}
 use Rattle.bdz_table.proofs.lookup.answer_all.Statement.{statement}
 use Rattle.bdz_table.proofs.lookup.answer_all.Tie as tie
 
@@ -39,7 +39,7 @@ assigned-all-requires c κs =
     let start = c .before .before .before .before .before .before .before .before .before .before .before in
     let a = start .args in
     let some : length (a .keys .now) ≡ 0 → ⊥ = c .before .before .before .before .before .if1 .left in
-    let q = asked (a .index) (length (a .keys .now)) (length (a .table .now)) (length (a .occ .now)) (length (a .supers .now)) (length (a .out .now)) some (omega arith) (start .pre) in
+    let q = fits (a .index) (length (a .keys .now)) (length (a .table .now)) (length (a .occ .now)) (length (a .supers .now)) (length (a .out .now)) some (omega arith) (start .pre) in
     let r = room-assigned (a .index .m) (length (a .table .now)) (length (a .occ .now)) (length (a .supers .now)) (rw (c .before .enum-told .given .1) at (q .room)) in
     (q .vertices, q .modulus, r, answers-fit (a .index) (length (a .keys .now)) (length (a .table .now)) (length (a .occ .now)) (length (a .supers .now)) (length (a .out .now)) some (start .pre))
 
@@ -51,7 +51,7 @@ compact-all-requires c κs =
     let start = c .before .before .before .before .before .before .before .before .before .before .before in
     let a = start .args in
     let some : length (a .keys .now) ≡ 0 → ⊥ = c .before .before .before .before .before .if1 .left in
-    let q = asked (a .index) (length (a .keys .now)) (length (a .table .now)) (length (a .occ .now)) (length (a .supers .now)) (length (a .out .now)) some (omega arith) (start .pre) in
+    let q = fits (a .index) (length (a .keys .now)) (length (a .table .now)) (length (a .occ .now)) (length (a .supers .now)) (length (a .out .now)) some (omega arith) (start .pre) in
     let r = room-compact (a .index .m) (length (a .table .now)) (length (a .occ .now)) (length (a .supers .now)) (rw (c .before .enum-told2 .given .1) at (q .room)) in
     (omega arith, q .vertices, r .1, r .0, r .2, answers-fit (a .index) (length (a .keys .now)) (length (a .table .now)) (length (a .occ .now)) (length (a .supers .now)) (length (a .out .now)) some (start .pre))
 
