@@ -3,7 +3,7 @@ use mathlib.Core.Path.{_≡_, refl, sym, ap, _∙_}
 use mathlib.Core.Logic.{_⊎_, ⊎-elim}
 use mathlib.Core.List.{List}
 use Prim.Native.Nat.{ℕ, zero, suc, _+_, _-_, _*_, _/_, _%_, _^_, _≤_, _<_, min, max}
-use native.Mathlib.Nat.{add-assoc, add-comm, add-zero, zero-add, suc-add, sub-self, mod-lt, mod-one, mod-eq-of-lt, add-mod, div-one, div-eq-of-lt, lt-of-lt-of-le}
+use native.Mathlib.Nat.{add-assoc, add-comm, add-zero, zero-add, suc-add, mod-lt, mod-one, mod-eq-of-lt, add-mod, div-one, div-eq-of-lt, lt-of-lt-of-le}
 use native.Mathlib.Numerals.{add-one}
 use native.Mathlib.Omega.{arith}
 use lib.Count.{onesIn, ones, ones-step}

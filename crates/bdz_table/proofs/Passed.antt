@@ -12,9 +12,11 @@ use borrow.Author.Tests.{ltb-false, eqb-false, ne-eqb, lt-ltb, le-ltb}
 use Rattle.bdz_base.specs.Buffer.{tab, over}
 use Rattle.bdz_base.specs.Refusal.{refuse, accept}
 use Rattle.bdz_base.specs.Sizes.{occupancyBytes, superCount}
-use Rattle.bdz_base.specs.Verts.{Below}
+use Rattle.bdz_base.specs.Verts.{Below, vertsOf}
+use Rattle.bdz_base.specs.declared.verts.Kind.{Kind}
 use Rattle.bdz_base.specs.declared.verts.Kind.the-variants.{Assigned, Compact}
 use Rattle.bdz_base.specs.declared.verts.Verts.{Verts}
+use Rattle.bdz_base.proofs.VertexLaws.{vertices-below}
 use Rattle.bdz_table.specs.Keys.{listed}
 use Rattle.bdz_table.specs.Lookup.{roomNo, lookupNo, sumOf, pickedOf, assignedAnswer, compactAnswer, manyAnswer, fewAnswer, answerOf, answersOf}
 use Rattle.bdz_table.specs.Rank.{supersNo, rankWith, rankedOf}
@@ -37,6 +39,12 @@ supers-accepted m occ supers h k = rw (le-ltb occ (occupancyBytes m) h, le-ltb s
 pub ranked-inside : (m : ℕ) (occ supers : List ℕ) (v : ℕ) → occupancyBytes m ≤ length occ → superCount m ≤ length supers → v ≤ m → rankedOf m occ supers v ≡ record { no = 0; answer = rankWith occ supers v }
 unfolding rankedOf
 ranked-inside m occ supers v h k l = rw (supers-accepted m (length occ) (length supers) h k, min-eq-left l)
+
+-- a table of m words or more has the word of each of a key's vertices
+pub words-there : (kind : Kind) (key seed m n : ℕ) → 0 < m → m ≤ n → Below n (vertsOf kind key seed m)
+words-there kind key seed m n h k =
+    let b = vertices-below kind key seed m h in
+    record { a-below = omega (arith, b .a-below); b-below = omega (arith, b .b-below); c-below = omega (arith, b .c-below) }
 
 -- the vertex that a sum picks is one of the key's
 pub picked-below : (table : List ℕ) {m : ℕ} {v : Verts} → Below m v → pickedOf table (listed v) < m

@@ -8,8 +8,7 @@ use native.Mathlib.Nat.{mod-lt, mod-eq-of-lt, add-zero, min-eq-left, min-le-righ
 use native.Mathlib.Numerals.{add-one}
 use native.Mathlib.Omega.{arith}
 use lib.Count.{onesIn}
-use lib.ListN.{length, getD, List·getD-append}
-use Rattle.bdz_base.specs.Buffer.{tab}
+use lib.ListN.{getD, List·getD-append}
 use Rattle.bdz_base.specs.Pack.{valueOf, bitsAt}
 use Rattle.bdz_base.specs.Sizes.{superCount}
 use Rattle.bdz_base.proofs.Buffers.{length-tab}

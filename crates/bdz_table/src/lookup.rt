@@ -117,7 +117,8 @@ fn compact_answer(
     let v = hash_verts(key, seed, m, Kind::Compact);
     let at = vertex_at(v, sum_words(table, v) % 3);
     let ranked = rank1(occ, supers, m, at);
-    fewer(ranked.answer, n - 1)
+    let last = n - 1;
+    fewer(ranked.answer, last)
 }
 
 // The assigned answer for each key.

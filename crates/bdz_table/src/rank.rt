@@ -115,7 +115,8 @@ fn rank_below(occ: &[u8], supers: &[u32], v: u32) -> u32
 {
     let block = v / 512;
     let at = block as usize;
-    let ones = popcount_bits(occ, (block * 512) as u64, v as u64);
+    let start = block * 512;
+    let ones = popcount_bits(occ, start as u64, v as u64);
     std::num::wrapping_add_u32(supers[at], ones)
 }
 

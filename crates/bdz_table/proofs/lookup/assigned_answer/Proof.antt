@@ -1,11 +1,10 @@
 -- `bdz_table::lookup::assigned_answer` meets its contract. Assumes nothing.
-use Prim.Native.Nat.{_-_}
-use Prim.Native.Nat.{_-_}
 use native.Mathlib.Omega.{arith}
+use lib.ListN.{length}
 use borrow.Author.Needs.{needs}
-use Rattle.bdz_base.proofs.VertexLaws.{vertices-below}
 use Rattle.bdz_base.specs.declared.verts.Kind.the-variants.{Assigned}
 use Rattle.bdz_table.specs.Lookup.{assignedAnswer}
+use Rattle.bdz_table.proofs.Passed.{words-there}
 use Rattle.bdz_table.proofs.lookup.assigned_answer.Statement.{statement}
 use Rattle.bdz_table.proofs.lookup.assigned_answer.Tie as tie
 
@@ -15,8 +14,7 @@ hash-verts-requires c κs = search needs
 sum-words-requires : tie.Need-sum-words-requires
 sum-words-requires c κs =
     let a = c .before .before .args in
-    let b = vertices-below Assigned (a .key) (a .seed) (a .m) (omega arith) in
-    rw (c .hash-verts .ensures) (record { a-below = omega (arith, b .a-below); b-below = omega (arith, b .b-below); c-below = omega (arith, b .c-below) })
+    rw (c .hash-verts .ensures) (words-there Assigned (a .key) (a .seed) (a .m) (length (a .table .now)) (omega arith) (omega arith))
 
 rem-result : tie.Need-rem-result
 rem-result c = search needs

@@ -1,14 +1,14 @@
 -- `bdz_table::lookup::compact_answer` meets its contract. Assumes nothing.
 use mathlib.Core.Path.{_≡_, _∙_}
-use Prim.Native.Nat.{_-_}
 use native.Mathlib.Omega.{arith}
+use lib.ListN.{length}
 use borrow.Author.Needs.{needs}
 use Rattle.bdz_base.proofs.VertexLaws.{vertices-below}
 use Rattle.bdz_base.specs.Verts.{vertsOf}
 use Rattle.bdz_base.specs.declared.verts.Kind.the-variants.{Compact}
 use Rattle.bdz_table.specs.Lookup.{pickedOf, compactAnswer}
 use Rattle.bdz_table.specs.Keys.{listed}
-use Rattle.bdz_table.proofs.Passed.{ranked-inside, picked-below}
+use Rattle.bdz_table.proofs.Passed.{ranked-inside, words-there, picked-below}
 use Rattle.bdz_table.proofs.lookup.compact_answer.Statement.{statement}
 use Rattle.bdz_table.proofs.lookup.compact_answer.Tie as tie
 
@@ -18,8 +18,7 @@ hash-verts-requires c κs = search needs
 sum-words-requires : tie.Need-sum-words-requires
 sum-words-requires c κs =
     let a = c .before .before .before .before .args in
-    let b = vertices-below Compact (a .key) (a .seed) (a .m) (omega arith) in
-    rw (c .hash-verts .ensures) (record { a-below = omega (arith, b .a-below); b-below = omega (arith, b .b-below); c-below = omega (arith, b .c-below) })
+    rw (c .hash-verts .ensures) (words-there Compact (a .key) (a .seed) (a .m) (length (a .table .now)) (omega arith) (omega arith))
 
 vertex-at-requires : tie.Need-vertex-at-requires
 vertex-at-requires c κs = search needs
@@ -27,8 +26,8 @@ vertex-at-requires c κs = search needs
 rank1-requires : tie.Need-rank1-requires
 rank1-requires c κs = search needs
 
-sub-fewer : tie.Need-sub-fewer
-sub-fewer c = search needs
+sub-last : tie.Need-sub-last
+sub-last c = search needs
 
 fewer-requires : tie.Need-fewer-requires
 fewer-requires c κs = search needs
@@ -52,6 +51,6 @@ compact-answer-spec =
     sum-words-requires
     vertex-at-requires
     rank1-requires
-    sub-fewer
+    sub-last
     fewer-requires
     returns)

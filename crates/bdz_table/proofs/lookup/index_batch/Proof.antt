@@ -1,6 +1,5 @@
 -- `bdz_table::lookup::index_batch` meets its contract. Assumes nothing.
 use mathlib.Core.Path.{sym, _∙_}
-use Prim.Native.Nat.{_-_}
 use borrow.Author.Tests.{ne-eqb}
 use borrow.Author.Needs.{needs}
 use Rattle.bdz_table.proofs.lookup.index_batch.Statement.{statement}

@@ -1,6 +1,6 @@
 -- `bdz_table::lookup::sum_words` meets its contract. Assumes nothing.
 use mathlib.Core.Path.{_∙_}
-use Prim.Native.Nat.{_+_, _-_, _^_}
+use Prim.Native.Nat.{_+_, _^_}
 use native.Mathlib.Nat.{mod-add-mod, add-assoc, add-zero}
 use lib.ListN.{getD}
 use borrow.Author.Needs.{needs}

@@ -1,6 +1,5 @@
 -- `bdz_table::lookup::vertex_at` meets its contract. Assumes nothing.
 use mathlib.Core.Path.{_≡_}
-use Prim.Native.Nat.{_-_}
 use native.Mathlib.Omega.{arith}
 use borrow.Author.Needs.{needs}
 use Rattle.bdz_table.proofs.lookup.vertex_at.Statement.{statement}

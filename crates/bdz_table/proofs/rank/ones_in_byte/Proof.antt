@@ -1,5 +1,5 @@
 -- `bdz_table::rank::ones_in_byte` meets its contract. Assumes nothing.
-use Prim.Native.Nat.{_-_, _/_, _^_}
+use Prim.Native.Nat.{_/_, _^_}
 use native.Mathlib.Omega.{arith}
 use lib.Bits.{and-mask}
 use lib.Pow.{pow-pos, pow-mono}

@@ -1,10 +1,7 @@
 -- `bdz_table::rank::rank_below` meets its contract. Assumes nothing.
 use mathlib.Core.Path.{_∙_}
-use mathlib.Core.Path.{_∙_}
-use Prim.Native.Nat.{_-_, _*_, _/_, _^_}
-use Prim.Native.Nat.{_-_, _*_, _/_, _^_}
+use Prim.Native.Nat.{_*_, _/_, _^_}
 use native.Mathlib.Nat.{add-mod-mod}
-use lib.ListN.{getD}
 use lib.ListN.{getD}
 use borrow.Author.Needs.{needs}
 use Rattle.bdz_table.specs.Rank.{rankWith, onesBetween}
@@ -14,8 +11,8 @@ use Rattle.bdz_table.proofs.rank.rank_below.Tie as tie
 cast-at : tie.Need-cast-at
 cast-at c = search needs
 
-mul-popcount-bits : tie.Need-mul-popcount-bits
-mul-popcount-bits c = search needs
+mul-start : tie.Need-mul-start
+mul-start c = search needs
 
 cast-popcount-bits : tie.Need-cast-popcount-bits
 cast-popcount-bits c = search needs
@@ -43,7 +40,7 @@ rank-below-spec =
     tie.close
     (tie.spec
     cast-at
-    mul-popcount-bits
+    mul-start
     cast-popcount-bits
     popcount-bits-requires
     mul-wrapping-add-u32
