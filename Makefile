@@ -27,4 +27,4 @@ demo:
 
 # the static library that the Rust links, from proved code only
 library:
-	rt staticlib bdz_oracle | tail -n 1
+	@tools/library | tail -n 1
