@@ -3,10 +3,12 @@
 //! The Rust's loops stand here, in the crate that holds the module, so that they are compiled as
 //! well as the Rust's own callers are.
 
+use crate::bdz::{self, BdzMphf};
+use crate::expressions;
 use crate::ours::{self, DONE};
 use crate::rng::Rng;
-use crate::topics::builds::{Build, Outcome};
-use crate::{bdz, expressions};
+use crate::topics::builds::{key_bytes, table_of, Build, Outcome};
+use crate::topics::lookup::lent;
 use std::hint::black_box;
 use std::time::{Duration, Instant};
 
@@ -19,6 +21,17 @@ const UNPACKING_BUDGET: f64 = 1.0;
 /// Numbers of keys, each with its rounds.
 const BUILDS: [(usize, usize); 3] = [(1_000, 300), (100_000, 15), (1_000_000, 5)];
 const BUILD_BUDGET: f64 = 1.2;
+/// Bits of the occupancy whose super counts are made: those of a compact index of `ITEMS` keys.
+const OCCUPANCY: u32 = 1_230_000;
+const SUPERS_BUDGET: f64 = 1.0;
+/// Numbers of keys, each with its rounds from a warm start and from a cold one.
+const LOOKUPS: [(usize, [usize; 2]); 2] = [(1_000, [300, 100]), (1_000_000, [15, 9])];
+const ASSIGNED_LOOKUP_BUDGET: f64 = 0.9;
+const COMPACT_LOOKUP_BUDGET: f64 = 1.0;
+/// A cold start is made by a walk through so many bytes, more than the caches of most machines hold.
+const EVICTION: usize = 64 << 20;
+/// The bytes of a line of a cache: a step of the walk.
+const LINE: usize = 64;
 
 pub fn print_table() {
     println!(
@@ -33,7 +46,20 @@ pub fn print_table() {
             .join(", ")
     );
     println!(
-        "{:<22} {:>11} {:>11} {:>6} {:>6}",
+        "super counts: ns per byte of an occupancy of {OCCUPANCY} bits; the Rust's own allocation \
+         is part of its time"
+    );
+    println!(
+        "lookups: ns per key, of all keys that were built, {} rounds; ours reads the keys from \
+         bytes into a lent room; cold: before each timed call of either side a byte is changed in \
+         every {LINE} of {} MiB, which drives out of the caches what the call is about to use",
+        LOOKUPS
+            .map(|(keys, [warm, cold])| format!("{keys} keys {warm} warm and {cold} cold"))
+            .join(", "),
+        EVICTION >> 20
+    );
+    println!(
+        "{:<30} {:>11} {:>11} {:>6} {:>6}",
         "what", "ours ns", "Rust ns", "ratio", "budget"
     );
     let mut rng = Rng::new(1);
@@ -49,37 +75,59 @@ pub fn print_table() {
         assigned_build(&mut rng, keys, rounds);
         compact_build(&mut rng, keys, rounds);
     }
+    super_counts(&mut rng);
+    for (keys, rounds) in LOOKUPS {
+        lookups(&mut rng, keys, rounds);
+    }
+}
+
+/// A line of the table: its name, the items of a call, how often the call is timed, and the ratio
+/// that is wanted.
+struct Row<'a> {
+    what: &'a str,
+    items: usize,
+    rounds: usize,
+    budget: f64,
 }
 
 /// Runs both sides in turn and prints a line of the table.
 fn measure(what: &str, budget: f64, ours: impl FnMut(), rust: impl FnMut()) {
-    measure_each(what, ITEMS, ROUNDS, budget, ours, rust);
+    let row = Row {
+        what,
+        items: ITEMS,
+        rounds: ROUNDS,
+        budget,
+    };
+    measure_row(row, || (), ours, rust);
 }
 
-/// The same for any number of items and rounds.
-fn measure_each(
-    what: &str,
-    items: usize,
-    rounds: usize,
-    budget: f64,
-    mut ours: impl FnMut(),
-    mut rust: impl FnMut(),
-) {
+/// The same for any row, with something to do before each timed call.
+fn measure_row(row: Row, mut before: impl FnMut(), mut ours: impl FnMut(), mut rust: impl FnMut()) {
     let (mut our_time, mut rust_time) = (Duration::MAX, Duration::MAX);
     ours();
     rust();
-    for _ in 0..rounds {
+    for _ in 0..row.rounds {
+        before();
         our_time = our_time.min(time(&mut ours));
+        before();
         rust_time = rust_time.min(time(&mut rust));
     }
-    let each = |time: Duration| time.as_secs_f64() * 1e9 / items as f64;
-    let ratio = each(our_time) / each(rust_time);
-    let verdict = if ratio <= budget { "within" } else { "over" };
+    let [our_each, rust_each] = [our_time, rust_time].map(|time| each(time, row.items));
+    let ratio = our_each / rust_each;
+    let verdict = if ratio <= row.budget {
+        "within"
+    } else {
+        "over"
+    };
     println!(
-        "{what:<22} {:>11.3} {:>11.3} {ratio:>6.2} {budget:>6.1} {verdict}",
-        each(our_time),
-        each(rust_time)
+        "{:<30} {our_each:>11.3} {rust_each:>11.3} {ratio:>6.2} {:>6.1} {verdict}",
+        row.what, row.budget
     );
+}
+
+/// The nanoseconds of each of so many items.
+fn each(time: Duration, items: usize) -> f64 {
+    time.as_secs_f64() * 1e9 / items as f64
 }
 
 fn time(work: &mut impl FnMut()) -> Duration {
@@ -102,7 +150,7 @@ type RustVertices = fn(&[u64], u64, u32, &mut [u32]);
 
 fn vertices(rng: &mut Rng, what: &str, compact: u32, m: u32, rust: RustVertices) {
     let keys = rng.keys(ITEMS);
-    let bytes: Vec<u8> = keys.iter().flat_map(|key| key.to_le_bytes()).collect();
+    let bytes = key_bytes(&keys);
     let seed = rng.next_u64();
     let mut our_out = vec![0u32; 3 * ITEMS];
     let mut rust_out = vec![0u32; 3 * ITEMS];
@@ -208,11 +256,15 @@ fn build(rng: &mut Rng, what: &str, asked: Build, count: usize, rounds: usize) {
     let needs = asked.needs();
     let mut loan = asked.loan(rng, needs);
     let mut built = None;
-    measure_each(
-        &format!("build {what}"),
-        count,
+    let row = Row {
+        what: &format!("build {what}"),
+        items: count,
         rounds,
-        BUILD_BUDGET,
+        budget: BUILD_BUDGET,
+    };
+    measure_row(
+        row,
+        || (),
         || {
             let status = black_box(asked).ours(black_box(&keys), black_box(&values), &mut loan);
             assert_eq!(status, DONE);
@@ -226,4 +278,124 @@ fn build(rng: &mut Rng, what: &str, asked: Build, count: usize, rounds: usize) {
     let expected = Outcome::of_rust(built.expect("the Rust was measured"));
     assert_eq!(loan.answer(), expected.answer(), "{what}: answers differ");
     assert_eq!(loan.fault(&needs, expected.after()), None, "{what}");
+}
+
+fn super_counts(rng: &mut Rng) {
+    let occupancy = rng.bytes(OCCUPANCY.div_ceil(8) as usize);
+    let mut our_supers = vec![0u32; expressions::supers(OCCUPANCY) as usize];
+    let mut rust_supers = Box::default();
+    let row = Row {
+        what: "super counts",
+        items: occupancy.len(),
+        rounds: ROUNDS,
+        budget: SUPERS_BUDGET,
+    };
+    measure_row(
+        row,
+        || (),
+        || {
+            let (m, occupancy) = (black_box(OCCUPANCY), black_box(&occupancy[..]));
+            let status = ours::supers_from_occ_bytes(m, occupancy, &mut our_supers);
+            assert_eq!(status, DONE);
+            black_box(&mut our_supers);
+        },
+        || {
+            let (m, occupancy) = (black_box(OCCUPANCY), black_box(&occupancy[..]));
+            rust_supers = bdz::supers_from_occ_bytes(occupancy, m);
+            black_box(&mut rust_supers);
+        },
+    );
+    assert!(our_supers[..] == rust_supers[..], "the super counts differ");
+}
+
+/// All keys of an index of either kind, looked up in it.
+fn lookups(rng: &mut Rng, count: usize, rounds: [usize; 2]) {
+    let keys = rng.keys(count);
+    let mut values: Vec<u32> = (0..count as u32).collect();
+    rng.shuffle(&mut values);
+    let assigned = Build::Assigned(&keys, &values, count as u32);
+    let compact = Build::Compact(&keys);
+    for (kind, asked, budget) in [
+        ("assigned", assigned, ASSIGNED_LOOKUP_BUDGET),
+        ("compact", compact, COMPACT_LOOKUP_BUDGET),
+    ] {
+        let built = asked.rust().expect("random keys peel");
+        lookups_in(&built, kind, &keys, rounds, budget);
+    }
+    reading(&keys, rounds[0]);
+}
+
+/// From a warm start, and then from a cold one.
+fn lookups_in(built: &BdzMphf, kind: &str, keys: &[u64], rounds: [usize; 2], budget: f64) {
+    let bytes = key_bytes(keys);
+    let mut key_room = vec![0u64; keys.len()];
+    let mut eviction = vec![0u8; EVICTION];
+    for (start, rounds) in ["", ", cold"].into_iter().zip(rounds) {
+        let what = &format!("lookup {kind}, {}{start}", keys.len());
+        let mut our_out = vec![0u32; keys.len()];
+        let mut rust_out = vec![0u32; keys.len()];
+        let row = Row {
+            what,
+            items: keys.len(),
+            rounds,
+            budget,
+        };
+        measure_row(
+            row,
+            || match start {
+                "" => (),
+                _ => evict(&mut eviction),
+            },
+            || {
+                let (bytes, index) = (black_box(&bytes[..]), black_box(lent(built)));
+                let status = ours::index_batch(bytes, index, &mut key_room, &mut our_out);
+                assert_eq!(status, DONE);
+                black_box(&mut our_out);
+            },
+            || {
+                rust_lookups(black_box(built), black_box(keys), &mut rust_out);
+                black_box(&mut rust_out);
+            },
+        );
+        assert!(our_out == rust_out, "{what}: the answers differ");
+    }
+}
+
+#[inline(never)]
+fn rust_lookups(built: &BdzMphf, keys: &[u64], out: &mut [u32]) {
+    let table = table_of(built);
+    for (&key, place) in keys.iter().zip(out) {
+        *place = built.index_from_g(table, key);
+    }
+}
+
+/// Drives out of the caches what was there.
+fn evict(eviction: &mut [u8]) {
+    for byte in eviction.iter_mut().step_by(LINE) {
+        *byte = byte.wrapping_add(1);
+    }
+    black_box(eviction);
+}
+
+/// How much of a lookup's time is the keys': an index of no keys answers 0 for each key, once they
+/// are read. It has no counterpart in the Rust, whose keys are no bytes.
+fn reading(keys: &[u64], rounds: usize) {
+    let bytes = key_bytes(keys);
+    let mut key_room = vec![0u64; keys.len()];
+    let mut out = vec![0u32; keys.len()];
+    let empty = BdzMphf::build_compact(&[]).expect("no keys are accepted");
+    let index = lent(&empty);
+    let mut read = || {
+        let status = ours::index_batch(black_box(&bytes), index, &mut key_room, &mut out);
+        assert_eq!(status, DONE);
+        black_box(&mut out);
+    };
+    read();
+    let times = (0..rounds).map(|_| time(&mut read));
+    let fastest = times.min().expect("there are rounds");
+    println!(
+        "{:<30} {:>11.3}",
+        format!("keys read, and 0s, {}", keys.len()),
+        each(fastest, keys.len())
+    );
 }

@@ -1,4 +1,5 @@
-//! The buffers that are lent to a build: dirty before it, fenced in, and judged after it.
+//! The buffers that are lent to a call: dirty before it, fenced in, and judged after it; and those
+//! that it only reads, fenced in as well.
 
 use crate::rng::Rng;
 use std::fmt::LowerHex;
@@ -52,7 +53,7 @@ pub struct Lent<T> {
 }
 
 impl<T: Item> Lent<T> {
-    fn new(rng: &mut Rng, length: usize) -> Self {
+    pub fn new(rng: &mut Rng, length: usize) -> Self {
         let mut lent = Self {
             items: vec![T::ZERO; FENCE + length + FENCE],
             start: 0,
@@ -72,7 +73,7 @@ impl<T: Item> Lent<T> {
         self.items.len() - 2 * FENCE
     }
 
-    fn given(&self) -> &[T] {
+    pub fn given(&self) -> &[T] {
         &self.items[FENCE..FENCE + self.length()]
     }
 
@@ -82,7 +83,7 @@ impl<T: Item> Lent<T> {
     }
 
     /// The first element that is not as it must be.
-    fn fault(&self, name: &str, left: Left<T>) -> Option<String> {
+    pub fn fault(&self, name: &str, left: Left<T>) -> Option<String> {
         let must_be = |at: usize| match (left, at.checked_sub(FENCE)) {
             (Left::Zeros(need), Some(place)) if place < need => T::ZERO,
             (Left::New(new), Some(place)) if place < new.len() => new[place],
@@ -98,6 +99,45 @@ impl<T: Item> Lent<T> {
             must_be(at)
         ))
     }
+}
+
+/// Elements that a call only reads, with others around them, so that an answer which reads past an
+/// end shows.
+pub struct Fenced<T> {
+    items: Vec<T>,
+    start: usize,
+    length: usize,
+}
+
+impl<T: Item> Fenced<T> {
+    pub fn new(rng: &mut Rng, given: &[T]) -> Self {
+        let around = T::from_bits(u64::MAX);
+        let start = FENCE + rng.below_usize(8);
+        let mut items = vec![around; start];
+        items.extend(given);
+        items.extend([around; FENCE]);
+        Self {
+            items,
+            start,
+            length: given.len(),
+        }
+    }
+
+    pub fn given(&self) -> &[T] {
+        &self.items[self.start..self.start + self.length]
+    }
+}
+
+/// The same with up to 8 elements of any kind behind, often none.
+pub fn lengthened<T: Item>(rng: &mut Rng, given: &[T]) -> Vec<T> {
+    let mut longer = given.to_vec();
+    longer.extend((0..more(rng)).map(|_| T::from_bits(rng.next_u64())));
+    longer
+}
+
+/// Up to 8, often 0: how much longer than it need be a buffer is.
+pub fn more(rng: &mut Rng) -> usize {
+    rng.below(2) as usize * rng.below_usize(9)
 }
 
 /// What stands at a place before a call. It is made anew to judge, so that nothing is kept of a

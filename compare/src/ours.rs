@@ -16,6 +16,10 @@ pub const ASSIGNED_DUPLICATE: u32 = 4;
 pub const NOT_PEELED: u32 = 5;
 /// The status of a call with a width that is 0 or over 32.
 pub const BAD_WIDTH: u32 = 10;
+/// The status of a lookup in an index of two keys or more whose m or modulus is 0.
+pub const ZERO_MODULUS: u32 = 11;
+/// The status of a call whose occupancy has fewer bits than there are vertices.
+pub const OCC_TRUNCATED: u32 = 12;
 /// The status of a build of more keys, or of a larger modulus, than `MOST`.
 pub const TOO_LARGE: u32 = 13;
 /// The status of a call whose answer has no room.
@@ -112,6 +116,49 @@ extern "C" {
         marks_length: usize,
         answer: *mut u64,
         answer_length: usize,
+    ) -> u32;
+    fn bdz_popcount_bits(occ: *const u8, occ_length: usize, lo: u64, hi: u64) -> u32;
+    fn bdz_supers_from_occ_bytes(
+        m: u32,
+        occ: *const u8,
+        occ_length: usize,
+        supers: *mut u32,
+        supers_length: usize,
+    ) -> u32;
+    fn bdz_rank1(
+        occ: *const u8,
+        occ_length: usize,
+        supers: *const u32,
+        supers_length: usize,
+        m: u32,
+        v: u32,
+    ) -> u32;
+    fn bdz_rank1_no(
+        occ: *const u8,
+        occ_length: usize,
+        supers: *const u32,
+        supers_length: usize,
+        m: u32,
+        v: u32,
+    ) -> u32;
+    fn bdz_index_batch(
+        keys: *const u8,
+        keys_length: usize,
+        compact: u32,
+        n: u32,
+        m: u32,
+        seed: u64,
+        modulus: u32,
+        table: *const u32,
+        table_length: usize,
+        occ: *const u8,
+        occ_length: usize,
+        supers: *const u32,
+        supers_length: usize,
+        key_room: *mut u64,
+        key_room_length: usize,
+        out: *mut u32,
+        out_length: usize,
     ) -> u32;
 }
 
@@ -278,6 +325,73 @@ pub fn build_compact(keys: &[u8], loan: &mut Loan) -> u32 {
             marks.len(),
             answer.as_mut_ptr(),
             answer.len(),
+        )
+    }
+}
+
+pub fn popcount_bits(occ: &[u8], lo: u64, hi: u64) -> u32 {
+    unsafe { bdz_popcount_bits(occ.as_ptr(), occ.len(), lo, hi) }
+}
+
+pub fn supers_from_occ_bytes(m: u32, occ: &[u8], supers: &mut [u32]) -> u32 {
+    unsafe {
+        bdz_supers_from_occ_bytes(
+            m,
+            occ.as_ptr(),
+            occ.len(),
+            supers.as_mut_ptr(),
+            supers.len(),
+        )
+    }
+}
+
+/// The status and the rank.
+pub fn rank1(occ: &[u8], supers: &[u32], m: u32, v: u32) -> (u32, u32) {
+    let (bits, bytes) = (occ.as_ptr(), occ.len());
+    let (counts, count) = (supers.as_ptr(), supers.len());
+    unsafe {
+        (
+            bdz_rank1_no(bits, bytes, counts, count, m, v),
+            bdz_rank1(bits, bytes, counts, count, m, v),
+        )
+    }
+}
+
+/// An index as a lookup takes it: its numbers, and the slices that are lent beside them.
+#[derive(Clone, Copy)]
+pub struct Index<'a> {
+    /// 0 for the assigned kind, any other number for the compact one.
+    pub compact: u32,
+    pub n: u32,
+    pub m: u32,
+    pub seed: u64,
+    pub modulus: u32,
+    pub table: &'a [u32],
+    pub occupancy: &'a [u8],
+    pub supers: &'a [u32],
+}
+
+/// The keys come as bytes, and are read into their room first.
+pub fn index_batch(keys: &[u8], index: Index, key_room: &mut [u64], out: &mut [u32]) -> u32 {
+    unsafe {
+        bdz_index_batch(
+            keys.as_ptr(),
+            keys.len(),
+            index.compact,
+            index.n,
+            index.m,
+            index.seed,
+            index.modulus,
+            index.table.as_ptr(),
+            index.table.len(),
+            index.occupancy.as_ptr(),
+            index.occupancy.len(),
+            index.supers.as_ptr(),
+            index.supers.len(),
+            key_room.as_mut_ptr(),
+            key_room.len(),
+            out.as_mut_ptr(),
+            out.len(),
         )
     }
 }

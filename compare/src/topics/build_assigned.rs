@@ -62,7 +62,7 @@ fn run(tally: &mut Tally, rng: &mut Rng) -> Result<(), Difference> {
 }
 
 /// Different values below the modulus, in any order.
-fn different(rng: &mut Rng, count: usize, modulus: u32) -> Vec<u32> {
+pub fn different(rng: &mut Rng, count: usize, modulus: u32) -> Vec<u32> {
     let mut values: Vec<u32> = Vec::new();
     if u64::from(modulus) < 4 * count as u64 {
         values.extend(0..modulus);
@@ -79,7 +79,7 @@ fn different(rng: &mut Rng, count: usize, modulus: u32) -> Vec<u32> {
 }
 
 /// A modulus that leaves room for n different values, often no more than that.
-fn some_modulus(rng: &mut Rng, n: usize) -> u32 {
+pub fn some_modulus(rng: &mut Rng, n: usize) -> u32 {
     let more = match rng.below(4) {
         0 => 0,
         1 => rng.below(9),

@@ -1,11 +1,10 @@
 //! What the two topics of builds share: the question, the Rust's answer to it, and the comparison.
 
-use super::unpack::Fenced;
 use crate::bdz::{self, BdzMphf, GStore, PeelScratch, MAX_SEED};
 use crate::collisions::{self, Crowd};
 use crate::error::StoreError;
 use crate::expressions::{assigned_vertices, seeds};
-use crate::lent::{After, Loan, Sizes};
+use crate::lent::{After, Fenced, Loan, Sizes};
 use crate::ours::{
     self, ASSIGNED_DUPLICATE, ASSIGNED_LEN, ASSIGNED_MODULUS, ASSIGNED_VALUE, DONE, MOST,
     NOT_PEELED, NO_ROOM, TOO_LARGE,
@@ -99,7 +98,7 @@ impl Build<'_> {
     }
 
     pub fn key_bytes(&self) -> Vec<u8> {
-        self.keys().iter().flat_map(|k| k.to_le_bytes()).collect()
+        key_bytes(self.keys())
     }
 
     pub fn value_bytes(&self) -> Vec<u8> {
@@ -133,6 +132,10 @@ impl Build<'_> {
     }
 }
 
+pub fn key_bytes(keys: &[u64]) -> Vec<u8> {
+    keys.iter().flat_map(|key| key.to_le_bytes()).collect()
+}
+
 /// The vertices of n keys, of which there are two or more.
 fn vertices(compact: bool, n: usize) -> u32 {
     match compact {
@@ -141,7 +144,8 @@ fn vertices(compact: bool, n: usize) -> u32 {
     }
 }
 
-fn listed<T: Debug>(what: &str, numbers: &[T]) -> String {
+/// For a report: all numbers, or the first of many.
+pub fn listed<T: Debug>(what: &str, numbers: &[T]) -> String {
     match numbers.len() {
         count @ 0..=PRINTED => format!("{count} {what} {numbers:x?}"),
         count => format!("{count} {what}, the first {:x?}", &numbers[..4]),
@@ -183,9 +187,6 @@ impl Outcome {
             Some(rank) => (bdz::COMPACT_G_BITS, rank.occ_bytes().to_vec()),
             None => (bdz::g_bits_for_modulus(built.modulus), Vec::new()),
         };
-        let GStore::Ram(table) = built.g else {
-            panic!("the Rust builds in memory");
-        };
         Self {
             refusal: DONE,
             seed: built.seed,
@@ -193,7 +194,7 @@ impl Outcome {
             m: built.m,
             modulus: built.modulus,
             width,
-            table: table.into_vec(),
+            table: table_of(&built).to_vec(),
             occupancy,
         }
     }
@@ -210,6 +211,13 @@ impl Outcome {
             ASSIGNED_VALUE | ASSIGNED_DUPLICATE | NOT_PEELED => After::Cleared,
             _ => After::Untouched,
         }
+    }
+}
+
+pub fn table_of(built: &BdzMphf) -> &[u32] {
+    match &built.g {
+        GStore::Ram(table) => table,
+        GStore::Fd { .. } => panic!("the Rust builds in memory"),
     }
 }
 

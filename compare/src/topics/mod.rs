@@ -3,8 +3,10 @@
 mod build_assigned;
 mod build_compact;
 pub mod builds;
+pub mod lookup;
 mod mix;
 mod pack;
+mod ranks;
 mod sizes;
 mod unpack;
 mod verts;
@@ -18,7 +20,7 @@ pub struct Topic {
     run: fn(&mut Tally, &mut Rng) -> Result<(), Difference>,
 }
 
-pub const ALL: [Topic; 7] = [
+pub const ALL: [Topic; 9] = [
     mix::TOPIC,
     verts::TOPIC,
     sizes::TOPIC,
@@ -26,6 +28,8 @@ pub const ALL: [Topic; 7] = [
     unpack::TOPIC,
     build_assigned::TOPIC,
     build_compact::TOPIC,
+    ranks::TOPIC,
+    lookup::TOPIC,
 ];
 
 impl Topic {

@@ -3,6 +3,7 @@
 use super::pack::{long_counts, rust_body, words};
 use super::Topic;
 use crate::bdz;
+use crate::lent::Fenced;
 use crate::ours;
 use crate::rng::Rng;
 use crate::tally::{Difference, Tally};
@@ -26,8 +27,7 @@ pub const TOPIC: Topic = Topic {
 };
 
 const RANDOM_WINDOWS: u64 = 30_000;
-/// Bytes or words on each side of what a call is given: it must not read the bytes, nor write the
-/// words.
+/// Words on each side of what a call is given, which it must leave alone.
 const FENCE: usize = 16;
 
 fn run(tally: &mut Tally, rng: &mut Rng) -> Result<(), Difference> {
@@ -58,31 +58,6 @@ fn run(tally: &mut Tally, rng: &mut Rng) -> Result<(), Difference> {
         }
     }
     Ok(())
-}
-
-/// Bytes with other bytes around them, so that an answer which reads past an end shows.
-pub struct Fenced {
-    bytes: Vec<u8>,
-    start: usize,
-    length: usize,
-}
-
-impl Fenced {
-    pub fn new(rng: &mut Rng, body: &[u8]) -> Self {
-        let start = FENCE + rng.below_usize(8);
-        let mut bytes = vec![0xff; start];
-        bytes.extend(body);
-        bytes.extend([0xff; FENCE]);
-        Self {
-            bytes,
-            start,
-            length: body.len(),
-        }
-    }
-
-    pub fn given(&self) -> &[u8] {
-        &self.bytes[self.start..self.start + self.length]
-    }
 }
 
 /// A body as the Rust packs it, whole and cut.
@@ -189,7 +164,7 @@ fn window(tally: &mut Tally, rng: &mut Rng, width: u32) -> Result<(), Difference
 }
 
 /// Mostly inside, and else at the last bytes, behind the end, or far away.
-fn window_start(rng: &mut Rng, bits: u64) -> u64 {
+pub fn window_start(rng: &mut Rng, bits: u64) -> u64 {
     match rng.below(8) {
         0 => bits.saturating_sub(1 + rng.below(48)),
         1 => bits + rng.below(48),

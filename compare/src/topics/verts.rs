@@ -163,22 +163,22 @@ fn rust_verts(kind: Kind, key: u64, seed: u64, m: u32) -> [u32; 3] {
 }
 
 /// A number that names the kind: 0, or any other number.
-fn flag(rng: &mut Rng, kind: Kind) -> u32 {
-    match kind {
-        Kind::Assigned => 0,
-        Kind::Compact => rng.edge_u32().max(1),
+pub fn flag(rng: &mut Rng, compact: bool) -> u32 {
+    match compact {
+        false => 0,
+        true => rng.edge_u32().max(1),
     }
 }
 
 /// The keys as bytes from any address on, with up to 7 bytes behind them and others around.
-struct KeyBytes {
+pub struct KeyBytes {
     bytes: Vec<u8>,
     start: usize,
     length: usize,
 }
 
 impl KeyBytes {
-    fn new(rng: &mut Rng, keys: &[u64]) -> Self {
+    pub fn new(rng: &mut Rng, keys: &[u64]) -> Self {
         let start = rng.below_usize(8);
         let mut bytes = rng.bytes(start);
         for key in keys {
@@ -193,7 +193,7 @@ impl KeyBytes {
         }
     }
 
-    fn given(&self) -> &[u8] {
+    pub fn given(&self) -> &[u8] {
         &self.bytes[self.start..self.start + self.length]
     }
 }
@@ -211,7 +211,7 @@ fn check(
     m: u32,
 ) -> Result<(), Difference> {
     let bytes = KeyBytes::new(rng, keys);
-    let compact = flag(rng, kind);
+    let compact = flag(rng, matches!(kind, Kind::Compact));
     let length = 3 * keys.len() + rng.below_usize(4);
     let before = rng.words(FENCE + length + FENCE);
     let mut expected = before.clone();
@@ -239,7 +239,7 @@ fn check_short(
         return Ok(());
     }
     let bytes = KeyBytes::new(rng, keys);
-    let compact = flag(rng, kind);
+    let compact = flag(rng, matches!(kind, Kind::Compact));
     let length = match rng.below(2) {
         0 => 3 * keys.len() - 1,
         _ => rng.below_usize(3 * keys.len()),
