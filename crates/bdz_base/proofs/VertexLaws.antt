@@ -11,13 +11,13 @@ use lib.Bits.{xor-lt}
 use lib.Dec.{eqb}
 use lib.Pow.{pow-pos, shr-le}
 use borrow.Author.Tests.{eqb-true, eqb-false, ne-eqb}
-use Rattle.bdz_base.specs.Mix.{xorShift, times, rotl, mix64Of}
+use Rattle.bdz_base.specs.Mix.{xorShift, times, rotl, mix64Of, nextOf, seedOf, stepOf, stateAt, seedAt}
 use Rattle.bdz_base.specs.Verts.{hashOf, high, movedOff, apart, hash3Of, hash3PartiteOf, vertsOf, sealed-assigned, sealed-compact, Below, Different, InParts}
 use Rattle.bdz_base.specs.declared.verts.Kind.{Kind}
 use Rattle.bdz_base.specs.declared.verts.Kind.the-variants.{Assigned, Compact}
 use Rattle.bdz_base.proofs.Halves.{high-le, rotl-lt}
 
--- ---- the mixed word has 64 bits
+-- ---- mixed words have 64 bits
 
 shifted-lt : (k x : ℕ) → x < 2 ^ 64 → xorShift k x < 2 ^ 64
 shifted-lt k x h = xor-lt 64 x (x / 2 ^ k) h (lt-of-le-of-lt (shr-le x k) h)
@@ -27,6 +27,12 @@ unfolding hashOf mix64Of
 hash-lt key seed =
     let x = xorShift 33 (times 0xff51_afd7_ed55_8ccd (xorShift 33 ((key + seed) % 2 ^ 64))) in
     shifted-lt 33 (times 0xc4ce_b9fe_1a85_ec53 x) (mod-lt (x * 0xc4ce_b9fe_1a85_ec53) (pow-pos 64))
+
+pub seed-lt : (i : ℕ) → seedAt i < 2 ^ 64
+unfolding seedAt stepOf seedOf
+seed-lt i =
+    let x = xorShift 27 (times 0xbf58_476d_1ce4_e5b9 (xorShift 30 (nextOf (stateAt i)))) in
+    shifted-lt 31 (times 0x94d0_49bb_1331_11eb x) (mod-lt (x * 0x94d0_49bb_1331_11eb) (pow-pos 64))
 
 -- ---- what moving on does
 

@@ -27,7 +27,7 @@ use Rattle.bdz_table.specs.Values.{valuesNo}
 use Rattle.bdz_table.specs.declared.index.Built.{Built}
 use Rattle.bdz_table.specs.declared.index.Index.{Index}
 use Rattle.bdz_table.specs.declared.needs.Lengths.{Lengths}
-use Rattle.bdz_table.proofs.Begun.{assigned-passed, compact-passed, length-assigned, length-compact, length-occupied}
+use Rattle.bdz_table.proofs.Begun.{assigned-passed, compact-passed, length-assigned, length-compact, length-occupied, empty-compact}
 use Rattle.bdz_table.proofs.Bits.{occupancy-front, tab-at}
 use Rattle.bdz_table.proofs.Counting.{graph-few}
 use Rattle.bdz_table.proofs.Found.{Accepted, accepted, sum-below, sum-behind, ats-counted, AssignedFound, assigned-found, compactVertices, compactLooked, CompactFound, occupancy-at, compact-found}
@@ -204,7 +204,7 @@ module _ (index : Index) (asked table occ supers out : List ℕ) where
 -- ---- from a build to a lookup
 
 -- a build that answers 0 was not refused, and gives the index
-built : (number : ℕ) (index : Index) (r : Built) → r ≡ builtFor number index → r .no ≡ 0 → (number ≡ 0) × (r .index ≡ index)
+pub built : (number : ℕ) (index : Index) (r : Built) → r ≡ builtFor number index → r .no ≡ 0 → (number ≡ 0) × (r .index ≡ index)
 built number index r q z = go (eqb number 0) refl q
   where
     go : (b : Bool) → eqb number 0 ≡ b → r ≡ cond b (record { no = 0; index = index }) (refusedBuild number) → (number ≡ 0) × (r .index ≡ index)
@@ -246,16 +246,16 @@ assigned-answered {keys} {values} {modulus} {table} {degrees} {xors} {queue} {ed
     keys (λ e. getD values e 0) (assigned-slots keys values modulus rest occ supers lent (a .0))
 
 -- the occupancy has its bytes; where there are no keys it needs none
-occupancy-room : (keys rest : List ℕ) → occupancyBytes (verticesFor Compact (length keys)) ≤ length (compactOccupancy keys ++ rest)
-occupancy-room keys rest = ⊎-elim none some (lt-or-ge (length keys) 1)
+pub occupancy-long : (keys : List ℕ) → length (compactOccupancy keys) ≡ occupancyBytes (verticesFor Compact (length keys))
+occupancy-long keys = ⊎-elim none (length-occupied keys) (lt-or-ge (length keys) 1)
   where
-    none : length keys < 1 → occupancyBytes (verticesFor Compact (length keys)) ≤ length (compactOccupancy keys ++ rest)
+    none : length keys < 1 → length (compactOccupancy keys) ≡ occupancyBytes (verticesFor Compact (length keys))
     none l =
         let e : length keys ≡ 0 = omega arith in
-        omega (arith, ap (verticesFor Compact) e ∙ vertices-none Compact)
+        rw (empty-compact keys e .1, e, vertices-none Compact)
 
-    some : 1 ≤ length keys → occupancyBytes (verticesFor Compact (length keys)) ≤ length (compactOccupancy keys ++ rest)
-    some l = omega (arith, length-append (compactOccupancy keys) rest, length-occupied keys l)
+occupancy-room : (keys rest : List ℕ) → occupancyBytes (verticesFor Compact (length keys)) ≤ length (compactOccupancy keys ++ rest)
+occupancy-room keys rest = omega (arith, length-append (compactOccupancy keys) rest, occupancy-long keys)
 
 compact-fits : (keys trest orest srest : List ℕ) → 2 ≤ length keys
     → Fits (indexFor Compact keys (length keys)) (length (compactTable keys ++ trest)) (length (compactOccupancy keys ++ orest)) (length (superCounts (verticesFor Compact (length keys)) (compactOccupancy keys ++ orest) ++ srest))

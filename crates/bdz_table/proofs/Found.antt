@@ -75,13 +75,14 @@ not-stuck kind keys h s =
     ap (λ (seed : ℕ). length (peel (graphOf kind keys seed m) (length keys) m .done)) (seed-kept kind keys h)
     ∙ works-all kind keys m (firstSeed kind keys m) (first-works kind keys m (rw (lt-ltb 1 (length keys) h) at s))
 
-pub accepted : (kind : Kind) (keys : List ℕ) (early verdict : ℕ) → 2 ≤ length keys → buildNo kind keys early verdict ≡ 0 → Accepted kind keys early verdict
+-- a build of one key or more that answers 0 was refused by no check
+pub none-refused : (kind : Kind) (keys : List ℕ) (early verdict : ℕ) → 1 ≤ length keys → buildNo kind keys early verdict ≡ 0 → (early ≡ 0) × (verdict ≡ 0) × (stuck kind keys ≡ false)
 unfolding lateNo
-accepted kind keys early verdict h e =
+none-refused kind keys early verdict h e =
     let a : early ≡ 0 = begins (eqb early 0) refl e in
-    let late : lateNo kind keys verdict ≡ 0 = sym (number-late kind keys early verdict (omega arith) a) ∙ e in
+    let late : lateNo kind keys verdict ≡ 0 = sym (number-late kind keys early verdict h a) ∙ e in
     let b = judged (eqb verdict 0) refl late in
-    record { early-none = a; verdict-none = b .0; peels = not-stuck kind keys h (b .1) }
+    (a, b .0, b .1)
   where
     begins : (b : Bool) → eqb early 0 ≡ b → cond (b && not (eqb (length keys) 0)) (lateNo kind keys verdict) early ≡ 0 → early ≡ 0
     begins true q e = eqb-true early 0 q
@@ -90,6 +91,11 @@ accepted kind keys early verdict h e =
     judged : (b : Bool) → eqb verdict 0 ≡ b → cond b (cond (stuck kind keys) 5 0) verdict ≡ 0 → (verdict ≡ 0) × (stuck kind keys ≡ false)
     judged true q e = (eqb-true verdict 0 q, refuse-none 4 (stuck kind keys) 0 e .0)
     judged false q e = absurd (eqb-false verdict 0 q e)
+
+pub accepted : (kind : Kind) (keys : List ℕ) (early verdict : ℕ) → 2 ≤ length keys → buildNo kind keys early verdict ≡ 0 → Accepted kind keys early verdict
+accepted kind keys early verdict h e =
+    let a = none-refused kind keys early verdict (omega arith) e in
+    record { early-none = a .0; verdict-none = a .1; peels = not-stuck kind keys h (a .2) }
 
 -- ---- the words of a table
 

@@ -16,6 +16,8 @@ use Rattle.bdz_table.specs.declared.index.Answer.{Answer}
 use Rattle.bdz_table.specs.declared.view.RankView.{RankView}
 use Rattle.bdz_table.proofs.build.build_assigned.Reads as build-assigned
 use Rattle.bdz_table.proofs.build.build_compact.Reads as build-compact
+use Rattle.bdz_table.proofs.index.refused.Reads as refused
+use Rattle.bdz_table.proofs.index.width_for.Reads as width-for
 use Rattle.bdz_table.proofs.lookup.index_batch.Reads as index-batch
 use Rattle.bdz_table.proofs.needs.needs.Reads as needs
 use Rattle.bdz_table.proofs.rank.popcount_bits.Reads as popcount-bits
@@ -24,6 +26,12 @@ use Rattle.bdz_table.proofs.rank.supers_from_occ_bytes.Reads as supers-
 use Rattle.bdz_table.proofs.view.RankView.rank as view-rank
 use Rattle.bdz_table.proofs.view.new as new
 use Rattle.bdz_table.proofs.view.rank1.Reads as rank1
+
+pub one-width-for : (κs : _) (a : _) → OneResult (width-for.Post κs a)
+one-width-for κs a x y s t p q = p ∙ sym q
+
+pub one-refused : (κs : _) (a : _) → OneResult (refused.Post κs a)
+one-refused κs a x y s t p q = p ∙ sym q
 
 pub one-needs : (κs : _) (a : _) → OneResult (needs.Post κs a)
 one-needs κs a x y s t p q = p ∙ sym q

@@ -33,7 +33,7 @@ ones-low (suc k) n =
     ones-step (n % 2 ^ suc k) ∙ rw (e, f, ones-low k (n / 2))
 
 -- no digit above matters
-ones-same : (k a b : ℕ) → a % 2 ^ k ≡ b % 2 ^ k → onesIn k a ≡ onesIn k b
+pub ones-same : (k a b : ℕ) → a % 2 ^ k ≡ b % 2 ^ k → onesIn k a ≡ onesIn k b
 ones-same k a b e = sym (ones-low k a) ∙ ap ones e ∙ ones-low k b
 
 two-pos : 0 < 2

@@ -8,15 +8,18 @@ use native.Mathlib.Nat.{mod-lt, mod-eq-of-lt, add-zero, min-eq-left, min-le-righ
 use native.Mathlib.Numerals.{add-one}
 use native.Mathlib.Omega.{arith}
 use lib.Count.{onesIn}
-use lib.ListN.{getD, List·getD-append}
+use lib.ListN.{getD, take, List·getD-append}
+use lib.Pow.{mod-mod-pow}
+use Rattle.bdz_base.specs.Buffer.{tab}
 use Rattle.bdz_base.specs.Pack.{valueOf, bitsAt}
-use Rattle.bdz_base.specs.Sizes.{superCount}
+use Rattle.bdz_base.specs.Sizes.{occupancyBytes, superCount}
 use Rattle.bdz_base.proofs.Buffers.{length-tab}
+use Rattle.bdz_base.proofs.Digits.{value-take}
 use Rattle.bdz_table.specs.Graph.{onlyIf, foldTo, countTo}
 use Rattle.bdz_table.specs.Rank.{onesBelow, onesBetween, superAt, superCounts, rankWith}
 use Rattle.bdz_table.proofs.Bits.{tab-at}
 use Rattle.bdz_table.proofs.Has.{lt-or-ge}
-use Rattle.bdz_table.proofs.Ones.{ones-add, ones-le, between-le, between-empty}
+use Rattle.bdz_table.proofs.Ones.{ones-add, ones-same, ones-le, between-le, between-empty}
 
 pub below-le : (occ : List ℕ) (v : ℕ) → onesBelow occ v ≤ v
 unfolding onesBelow
@@ -25,6 +28,14 @@ below-le occ v = ones-le v (valueOf 8 occ)
 pub below-none : (occ : List ℕ) → onesBelow occ 0 ≡ 0
 unfolding onesBelow onesIn
 below-none occ = refl
+
+-- bytes behind those of v do not matter
+pub below-front : (occ : List ℕ) (k v : ℕ) → v ≤ k * 8 → onesBelow (take k occ) v ≡ onesBelow occ v
+unfolding onesBelow
+below-front occ k v h =
+    let e : k * 8 - v + v ≡ k * 8 = omega arith in
+    rw (value-take 8 k occ)
+    (ones-same v (valueOf 8 occ % 2 ^ (k * 8)) (valueOf 8 occ) (subst (λ (j : ℕ). valueOf 8 occ % 2 ^ j % 2 ^ v ≡ valueOf 8 occ % 2 ^ v) e (mod-mod-pow (valueOf 8 occ) (k * 8 - v) v)))
 
 -- ones below hi are those below lo, and those between
 pub below-add : (occ : List ℕ) (lo hi : ℕ) → lo ≤ hi → onesBelow occ hi ≡ onesBelow occ lo + onesBetween occ lo hi
@@ -88,6 +99,12 @@ ranks-all occ (suc m) r h = ⊎-elim (λ k. before (ranks-all occ m r k)) here (
 pub super-none : (m : ℕ) (occ : List ℕ) → 0 ≡ superAt m occ 0
 unfolding superAt
 super-none m occ = rw (min-eq-left {n = 0} {m = m} (omega arith)) (sym (below-none occ))
+
+-- only the bytes that m bits take matter
+pub supers-front : (m : ℕ) (occ : List ℕ) → superCounts m (take (occupancyBytes m) occ) ≡ superCounts m occ
+unfolding superCounts superAt
+supers-front m occ =
+    ap (λ (f : ℕ → ℕ). tab f (superCount m)) (λ j i. below-front occ (occupancyBytes m) (min (i * 512) m) (omega arith) j)
 
 pub super-le : (m : ℕ) (occ : List ℕ) (i : ℕ) → superAt m occ i ≤ m
 unfolding superAt

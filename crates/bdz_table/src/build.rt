@@ -6,7 +6,7 @@ ghost use lib.ListN.{length, getD, replicate};
 ghost use Rattle.bdz_base.specs.Sizes.{occupancyBytes};
 ghost use Rattle.bdz_base.specs.declared.verts.Kind.the-variants.{Assigned, Compact};
 ghost use Rattle.bdz_table.specs.Assign.{partOf};
-ghost use Rattle.bdz_table.specs.Build.{wordsFor, cutsFor, assignedTable, compactTable, compactOccupancy, widthFor, builtFor, refusedBuild, assignedEarly, compactEarly, lengthsOf, BuiltAssigned, BuiltCompact};
+ghost use Rattle.bdz_table.specs.Build.{wordsFor, cutsFor, assignedTable, compactTable, compactOccupancy, widthFor, builtFor, assignedEarly, compactEarly, lengthsOf, BuiltAssigned, BuiltCompact};
 ghost use Rattle.bdz_table.specs.Occupancy.{occupancyOf};
 ghost use Rattle.bdz_table.specs.Peel.{atsOf};
 ghost use Rattle.bdz_table.specs.Values.{valuesNo};
@@ -16,6 +16,8 @@ use super::assign::assign_g;
 use super::assign::note_order;
 use super::index::Built;
 use super::index::Index;
+use super::index::refused;
+use super::index::width_for;
 use super::needs::Lengths;
 use super::needs::early_assigned;
 use super::needs::early_compact;
@@ -27,7 +29,6 @@ use super::seeds::find_seed;
 use super::seen::judge_values;
 use bdz_base::refusal::ACCEPTED;
 use bdz_base::refusal::GRAPH_DID_NOT_PEEL;
-use bdz_base::size::g_bits_for_modulus;
 use bdz_base::verts::Kind;
 
 // What a run came to: a refusal number, or 0 and the seed.
@@ -236,32 +237,6 @@ fn judge_part(values: &[u32], modulus: u32, seen: &mut [u8]) -> u32
     let verdict = judge_values(values, modulus, seen);
     zero8(seen);
     verdict
-}
-
-fn width_for(kind: Kind, modulus: u32) -> u32
-    ensures { λ r. ⌜ r ≡ widthFor kind modulus ⌝ }
-{
-    match kind {
-        Kind::Assigned => g_bits_for_modulus(modulus),
-        Kind::Compact => 2,
-    }
-}
-
-// A refused call answers its number, with every other field zero.
-fn refused(no: u32) -> Built
-    ensures { λ r. ⌜ r ≡ refusedBuild no ⌝ }
-{
-    Built {
-        no,
-        index: Index {
-            kind: Kind::Assigned,
-            n: 0,
-            m: 0,
-            seed: 0,
-            modulus: 0,
-            width: 0,
-        },
-    }
 }
 
 // The answer to what a run came to.

@@ -1,7 +1,7 @@
--- `bdz_table::build::width_for` meets its contract. Assumes nothing.
+-- `bdz_table::index::width_for` meets its contract. Assumes nothing.
 use borrow.Author.Needs.{needs}
-use Rattle.bdz_table.proofs.build.width_for.Statement.{statement}
-use Rattle.bdz_table.proofs.build.width_for.Tie as tie
+use Rattle.bdz_table.proofs.index.width_for.Statement.{statement}
+use Rattle.bdz_table.proofs.index.width_for.Tie as tie
 
 enum-told : tie.Need-enum-told
 enum-told c = search needs
