@@ -15,6 +15,12 @@ use Rattle.bdz_oracle.proofs.hashing.bdz_super_count.Reads as bdz-super
 use Rattle.bdz_oracle.proofs.packing.bdz_extract_g_window.Reads as bdz-extract-g-window
 use Rattle.bdz_oracle.proofs.packing.bdz_unpack_g_at.Reads as bdz-unpack-g-at
 use Rattle.bdz_oracle.proofs.hashing.bdz_hash_verts.Reads as bdz-hash-verts
+use Rattle.bdz_oracle.proofs.imaging.bdz_audit.Reads as bdz-audit
+use Rattle.bdz_oracle.proofs.imaging.bdz_image_len.Reads as bdz-image-len
+use Rattle.bdz_oracle.proofs.imaging.bdz_open_compact.Reads as bdz-open-compact
+use Rattle.bdz_oracle.proofs.imaging.bdz_open_packed.Reads as bdz-open-packed
+use Rattle.bdz_oracle.proofs.imaging.bdz_trailer_off.Reads as bdz-trailer-off
+use Rattle.bdz_oracle.proofs.imaging.bdz_write_image.Reads as bdz-write-image
 use Rattle.bdz_oracle.proofs.looking.bdz_index_batch.Reads as bdz-index-batch
 use Rattle.bdz_oracle.proofs.looking.bdz_popcount_bits.Reads as bdz-popcount-bits
 use Rattle.bdz_oracle.proofs.looking.bdz_rank1.Reads as bdz-rank1
@@ -86,6 +92,24 @@ one-bdz-rank1-no κs a x y s t p q = p ∙ sym q
 
 pub one-bdz-index-batch : (κs : _) (a : _) → OneOutcome (λ s. (s .1 .1 .1 .1 .1 .1 .1 .1 .1 .0 .now ∷ s .1 .1 .1 .1 .1 .1 .1 .1 .1 .1 .0 .now ∷ [])) (bdz-index-batch.Post κs a)
 one-bdz-index-batch κs a x y s t p q = (p .number-is ∙ sym (q .number-is), rw (p .key-room-is, p .out-is, q .key-room-is, q .out-is))
+
+pub one-bdz-image-len : (κs : _) (a : _) → OneResult (bdz-image-len.Post κs a)
+one-bdz-image-len κs a x y s t p q = p ∙ sym q
+
+pub one-bdz-trailer-off : (κs : _) (a : _) → OneResult (bdz-trailer-off.Post κs a)
+one-bdz-trailer-off κs a x y s t p q = p ∙ sym q
+
+pub one-bdz-write-image : (κs : _) (a : _) → OneOutcome (λ s. s .1 .1 .1 .1 .1 .1 .1 .0 .now) (bdz-write-image.Post κs a)
+one-bdz-write-image κs a x y s t p q = (p .number-is ∙ sym (q .number-is), p .after-is ∙ sym (q .after-is))
+
+pub one-bdz-open-packed : (κs : _) (a : _) → OneOutcome (λ s. s .1 .1 .0 .now) (bdz-open-packed.Post κs a)
+one-bdz-open-packed κs a x y s t p q = (p .number-is ∙ sym (q .number-is), p .answer-is ∙ sym (q .answer-is))
+
+pub one-bdz-open-compact : (κs : _) (a : _) → OneOutcome (λ s. s .1 .1 .0 .now) (bdz-open-compact.Post κs a)
+one-bdz-open-compact κs a x y s t p q = (p .number-is ∙ sym (q .number-is), p .answer-is ∙ sym (q .answer-is))
+
+pub one-bdz-audit : (κs : _) (a : _) → OneOutcome (λ s. s .1 .1 .1 .0 .now) (bdz-audit.Post κs a)
+one-bdz-audit κs a x y s t p q = (p .number-is ∙ sym (q .number-is), p .answer-is ∙ sym (q .answer-is))
 
 pub one-bdz-build-assigned : (κs : _) (a : _) → OneOutcome {B = AssignedLists} (λ s. (s .1 .1 .1 .0 .now, s .1 .1 .1 .1 .0 .now, s .1 .1 .1 .1 .1 .0 .now, s .1 .1 .1 .1 .1 .1 .0 .now, s .1 .1 .1 .1 .1 .1 .1 .0 .now, s .1 .1 .1 .1 .1 .1 .1 .1 .0 .now, s .1 .1 .1 .1 .1 .1 .1 .1 .1 .0 .now, s .1 .1 .1 .1 .1 .1 .1 .1 .1 .1 .0 .now, s .1 .1 .1 .1 .1 .1 .1 .1 .1 .1 .1 .0 .now, s .1 .1 .1 .1 .1 .1 .1 .1 .1 .1 .1 .1 .0 .now, s .1 .1 .1 .1 .1 .1 .1 .1 .1 .1 .1 .1 .1 .0 .now)) (bdz-build-assigned.Post κs a)
 one-bdz-build-assigned κs a x y s t p q =

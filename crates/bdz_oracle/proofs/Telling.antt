@@ -42,6 +42,12 @@ five (x ∷ y ∷ z ∷ []) h = absurd (omega arith)
 five (x ∷ y ∷ z ∷ u ∷ []) h = absurd (omega arith)
 five (x ∷ y ∷ z ∷ u ∷ v ∷ old) h = refl
 
+-- the two of an audit
+pub two : (old : List ℕ) {a b : ℕ} → 2 ≤ length old → set (set old 0 a) 1 b ≡ over (a ∷ b ∷ []) old
+two [] h = absurd (omega arith)
+two (x ∷ []) h = absurd (omega arith)
+two (x ∷ y ∷ old) h = refl
+
 -- what was read is lent on
 pub read-part : (f : ℕ → ℕ) (n : ℕ) (old : List ℕ) {after : List ℕ} → after ≡ over (tab f n) old → take n after ≡ tab f n
 read-part f n old e = rw e (take-at (tab f n) (drop (length (tab f n)) old) n (length-tab f n))

@@ -1,3 +1,4 @@
 pub mod Building
+pub mod Imaging
 pub mod Keys
 pub mod Looking

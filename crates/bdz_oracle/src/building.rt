@@ -12,7 +12,7 @@ use bdz_table::build::build_compact;
 use bdz_table::index::Index;
 
 // The numbers of an index, one word each.
-fn tell(index: Index, answer: &mut [u64])
+pub(crate) fn tell(index: Index, answer: &mut [u64])
     requires { ⌜ 5 ≤ length (now answer) ⌝ }
     ensures { λ r. ⌜ now (answer .exit) ≡ over (fieldsOf index) (now (answer .entry)) ⌝ }
 {

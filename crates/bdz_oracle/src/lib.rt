@@ -1,6 +1,7 @@
 // What the Rust harness links: plain functions on numbers and slices, with keys as little-endian bytes.
 pub mod building;
 pub mod hashing;
+pub mod imaging;
 pub mod looking;
 pub mod packing;
 pub mod reading;

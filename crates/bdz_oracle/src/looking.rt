@@ -2,11 +2,10 @@
 ghost use mathlib.Core.Path.{_≡_};
 ghost use Prim.Native.Nat.{_%_, _^_};
 ghost use Rattle.bdz_table.specs.Rank.{onesBetween, SuperCounted, rankedOf};
-ghost use Rattle.bdz_oracle.specs.Keys.{kindOf};
 ghost use Rattle.bdz_oracle.specs.Looking.{indexOf, ToldLookup};
+use super::reading::kind_of;
 use super::reading::read_keys;
 use bdz_base::refusal::NO_ROOM;
-use bdz_base::verts::Kind;
 use bdz_table::index::Index;
 use bdz_table::lookup::index_batch;
 use bdz_table::view::rank1;
@@ -39,15 +38,6 @@ pub extern "C" fn bdz_rank1_no(occ: &[u8], supers: &[u32], m: u32, v: u32) -> u3
     ensures { λ r. ⌜ r ≡ rankedOf m (now (occ .entry)) (now (supers .entry)) v .no ⌝ }
 {
     rank1(occ, supers, m, v).no
-}
-
-fn kind_of(compact: u32) -> Kind
-    ensures { λ r. ⌜ r ≡ kindOf compact ⌝ }
-{
-    if compact == 0 {
-        return Kind::Assigned;
-    }
-    Kind::Compact
 }
 
 // The answer for each key, in an index of the assigned kind for 0 and of the compact kind for any other number. 14 where the keys have no room, and then nothing is touched.

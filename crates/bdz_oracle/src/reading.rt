@@ -1,12 +1,23 @@
-// Keys and values that come as bytes, read into words.
+// What comes from the harness: kinds as numbers, keys and values as bytes that are read into words.
 ghost use mathlib.Core.Path.{_≡_};
 ghost use Prim.Native.Nat.{_/_, _≤_};
 ghost use lib.ListN.{length};
 ghost use Rattle.bdz_base.specs.Buffer.{tab, over};
-ghost use Rattle.bdz_oracle.specs.Keys.{keyAt};
+ghost use Rattle.bdz_oracle.specs.Keys.{kindOf, keyAt};
 ghost use Rattle.bdz_oracle.specs.Building.{valueAt};
 use bdz_base::pack::extract_g_window;
+use bdz_base::verts::Kind;
 use bdz_base::words::le64;
+
+// 0 is the assigned kind.
+pub(crate) fn kind_of(compact: u32) -> Kind
+    ensures { λ r. ⌜ r ≡ kindOf compact ⌝ }
+{
+    if compact == 0 {
+        return Kind::Assigned;
+    }
+    Kind::Compact
+}
 
 // One word a key.
 pub(crate) fn read_keys(keys: &[u8], n: usize, out: &mut [u64])

@@ -1,8 +1,8 @@
--- `bdz_oracle::looking::kind_of` meets its contract. Assumes nothing.
+-- `bdz_oracle::reading::kind_of` meets its contract. Assumes nothing.
 use borrow.Author.Needs.{needs}
 use Rattle.bdz_oracle.proofs.Answers.{compact-kind}
-use Rattle.bdz_oracle.proofs.looking.kind_of.Statement.{statement}
-use Rattle.bdz_oracle.proofs.looking.kind_of.Tie as tie
+use Rattle.bdz_oracle.proofs.reading.kind_of.Statement.{statement}
+use Rattle.bdz_oracle.proofs.reading.kind_of.Tie as tie
 
 returns : tie.Need-returns
 returns c = search needs

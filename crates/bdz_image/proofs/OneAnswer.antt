@@ -1,0 +1,27 @@
+-- Each public promise leaves one answer, and one content of every lent buffer. Assumes nothing.
+use mathlib.Core.Path.{sym, _∙_}
+use Rattle.bdz_base.proofs.OneAnswer.{OneResult, OneOutcome}
+use Rattle.bdz_image.proofs.audit.audit.Reads as audit
+use Rattle.bdz_image.proofs.open.open_compact.Reads as open-compact
+use Rattle.bdz_image.proofs.open.open_packed.Reads as open-packed
+use Rattle.bdz_image.proofs.size.image_len.Reads as image-len
+use Rattle.bdz_image.proofs.size.trailer_off.Reads as trailer-off
+use Rattle.bdz_image.proofs.write.write_image.Reads as write-image
+
+pub one-image-len : (κs : _) (a : _) → OneResult (image-len.Post κs a)
+one-image-len κs a x y s t p q = p ∙ sym q
+
+pub one-trailer-off : (κs : _) (a : _) → OneResult (trailer-off.Post κs a)
+one-trailer-off κs a x y s t p q = p ∙ sym q
+
+pub one-write-image : (κs : _) (a : _) → OneOutcome (λ s. s .1 .1 .1 .0 .now) (write-image.Post κs a)
+one-write-image κs a x y s t p q = (p .number-is ∙ sym (q .number-is), p .after-is ∙ sym (q .after-is))
+
+pub one-open-packed : (κs : _) (a : _) → OneResult (open-packed.Post κs a)
+one-open-packed κs a x y s t p q = p ∙ sym q
+
+pub one-open-compact : (κs : _) (a : _) → OneResult (open-compact.Post κs a)
+one-open-compact κs a x y s t p q = p ∙ sym q
+
+pub one-audit : (κs : _) (a : _) → OneResult (audit.Post κs a)
+one-audit κs a x y s t p q = p ∙ sym q
