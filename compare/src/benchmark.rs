@@ -52,7 +52,8 @@ pub fn print_table() {
     println!(
         "lookups: ns per key, of all keys that were built, {} rounds; ours reads the keys from \
          bytes into a lent room; cold: before each timed call of either side a byte is changed in \
-         every {LINE} of {} MiB, which drives out of the caches what the call is about to use",
+         every {LINE} of {} MiB, which drives out of the caches what the call is about to use; \
+         keys read alone: a lookup in an index of no keys, which reads the keys and answers 0s",
         LOOKUPS
             .map(|(keys, [warm, cold])| format!("{keys} keys {warm} warm and {cold} cold"))
             .join(", "),
@@ -322,7 +323,7 @@ fn lookups(rng: &mut Rng, count: usize, rounds: [usize; 2]) {
         let built = asked.rust().expect("random keys peel");
         lookups_in(&built, kind, &keys, rounds, budget);
     }
-    reading(&keys, rounds[0]);
+    reading(&keys, rounds);
 }
 
 /// From a warm start, and then from a cold one.
@@ -330,8 +331,8 @@ fn lookups_in(built: &BdzMphf, kind: &str, keys: &[u64], rounds: [usize; 2], bud
     let bytes = key_bytes(keys);
     let mut key_room = vec![0u64; keys.len()];
     let mut eviction = vec![0u8; EVICTION];
-    for (start, rounds) in ["", ", cold"].into_iter().zip(rounds) {
-        let what = &format!("lookup {kind}, {}{start}", keys.len());
+    for (start, rounds) in Start::BOTH.into_iter().zip(rounds) {
+        let what = &format!("lookup {kind}, {}{}", keys.len(), start.name());
         let mut our_out = vec![0u32; keys.len()];
         let mut rust_out = vec![0u32; keys.len()];
         let row = Row {
@@ -342,10 +343,7 @@ fn lookups_in(built: &BdzMphf, kind: &str, keys: &[u64], rounds: [usize; 2], bud
         };
         measure_row(
             row,
-            || match start {
-                "" => (),
-                _ => evict(&mut eviction),
-            },
+            || start.prepare(&mut eviction),
             || {
                 let (bytes, index) = (black_box(&bytes[..]), black_box(lent(built)));
                 let status = ours::index_batch(bytes, index, &mut key_room, &mut our_out);
@@ -369,33 +367,58 @@ fn rust_lookups(built: &BdzMphf, keys: &[u64], out: &mut [u32]) {
     }
 }
 
-/// Drives out of the caches what was there.
-fn evict(eviction: &mut [u8]) {
-    for byte in eviction.iter_mut().step_by(LINE) {
-        *byte = byte.wrapping_add(1);
+/// What is in the caches when the clock starts.
+#[derive(Clone, Copy)]
+enum Start {
+    /// What the calls before have left.
+    Warm,
+    /// Nothing of use.
+    Cold,
+}
+
+impl Start {
+    const BOTH: [Self; 2] = [Self::Warm, Self::Cold];
+
+    /// What is added to the name of a row.
+    fn name(self) -> &'static str {
+        match self {
+            Self::Warm => "",
+            Self::Cold => ", cold",
+        }
     }
-    black_box(eviction);
+
+    fn prepare(self, eviction: &mut [u8]) {
+        if matches!(self, Self::Cold) {
+            for byte in eviction.iter_mut().step_by(LINE) {
+                *byte = byte.wrapping_add(1);
+            }
+            black_box(eviction);
+        }
+    }
 }
 
 /// How much of a lookup's time is the keys': an index of no keys answers 0 for each key, once they
-/// are read. It has no counterpart in the Rust, whose keys are no bytes.
-fn reading(keys: &[u64], rounds: usize) {
+/// are read. It has no counterpart in the Rust, whose keys are no bytes, and so no budget.
+fn reading(keys: &[u64], rounds: [usize; 2]) {
     let bytes = key_bytes(keys);
     let mut key_room = vec![0u64; keys.len()];
     let mut out = vec![0u32; keys.len()];
+    let mut eviction = vec![0u8; EVICTION];
     let empty = BdzMphf::build_compact(&[]).expect("no keys are accepted");
-    let index = lent(&empty);
     let mut read = || {
-        let status = ours::index_batch(black_box(&bytes), index, &mut key_room, &mut out);
+        let (bytes, index) = (black_box(&bytes[..]), black_box(lent(&empty)));
+        let status = ours::index_batch(bytes, index, &mut key_room, &mut out);
         assert_eq!(status, DONE);
         black_box(&mut out);
     };
-    read();
-    let times = (0..rounds).map(|_| time(&mut read));
-    let fastest = times.min().expect("there are rounds");
-    println!(
-        "{:<30} {:>11.3}",
-        format!("keys read, and 0s, {}", keys.len()),
-        each(fastest, keys.len())
-    );
+    for (start, rounds) in Start::BOTH.into_iter().zip(rounds) {
+        let what = format!("keys read alone, {}{}", keys.len(), start.name());
+        read();
+        let mut fastest = Duration::MAX;
+        for _ in 0..rounds {
+            start.prepare(&mut eviction);
+            fastest = fastest.min(time(&mut read));
+        }
+        println!("{what:<30} {:>11.3}", each(fastest, keys.len()));
+    }
 }
