@@ -3,7 +3,7 @@
 //! The Rust's loops stand here, in the crate that holds the module, so that they are compiled as
 //! well as the Rust's own callers are.
 
-use crate::bdz::{self, BdzMphf};
+use crate::bdz::{self, BdzMphf, CompactRank, OccBits};
 use crate::expressions;
 use crate::ours::{self, DONE};
 use crate::rng::Rng;
@@ -28,6 +28,9 @@ const SUPERS_BUDGET: f64 = 1.0;
 const LOOKUPS: [(usize, [usize; 2]); 2] = [(1_000, [300, 100]), (1_000_000, [15, 9])];
 const ASSIGNED_LOOKUP_BUDGET: f64 = 0.9;
 const COMPACT_LOOKUP_BUDGET: f64 = 1.0;
+/// Numbers of keys, each with its rounds.
+const WRITES: [(usize, usize); 2] = [(1_000, 300), (1_000_000, 15)];
+const WRITE_BUDGET: f64 = 1.0;
 /// A cold start is made by a walk through so many bytes, more than the caches of most machines hold.
 const EVICTION: usize = 64 << 20;
 /// The bytes of a line of a cache: a step of the walk.
@@ -60,6 +63,13 @@ pub fn print_table() {
         EVICTION >> 20
     );
     println!(
+        "writing: ns per key of the index, {} rounds; ours into a lent buffer, the Rust's into a \
+         vector that has the room, without its file",
+        WRITES
+            .map(|(keys, rounds)| format!("{keys} keys {rounds}"))
+            .join(", ")
+    );
+    println!(
         "{:<30} {:>11} {:>11} {:>6} {:>6}",
         "what", "ours ns", "Rust ns", "ratio", "budget"
     );
@@ -79,6 +89,9 @@ pub fn print_table() {
     super_counts(&mut rng);
     for (keys, rounds) in LOOKUPS {
         lookups(&mut rng, keys, rounds);
+    }
+    for (keys, rounds) in WRITES {
+        writing(&mut rng, keys, rounds);
     }
 }
 
@@ -309,18 +322,24 @@ fn super_counts(rng: &mut Rng) {
     assert!(our_supers[..] == rust_supers[..], "the super counts differ");
 }
 
-/// All keys of an index of either kind, looked up in it.
-fn lookups(rng: &mut Rng, count: usize, rounds: [usize; 2]) {
+/// Keys, and the Rust's index of them of either kind.
+fn indexes(rng: &mut Rng, count: usize) -> (Vec<u64>, [BdzMphf; 2]) {
     let keys = rng.keys(count);
     let mut values: Vec<u32> = (0..count as u32).collect();
     rng.shuffle(&mut values);
     let assigned = Build::Assigned(&keys, &values, count as u32);
     let compact = Build::Compact(&keys);
-    for (kind, asked, budget) in [
+    let built = [assigned, compact].map(|asked| asked.rust().expect("random keys peel"));
+    (keys, built)
+}
+
+/// All keys of an index of either kind, looked up in it.
+fn lookups(rng: &mut Rng, count: usize, rounds: [usize; 2]) {
+    let (keys, [assigned, compact]) = indexes(rng, count);
+    for (kind, built, budget) in [
         ("assigned", assigned, ASSIGNED_LOOKUP_BUDGET),
         ("compact", compact, COMPACT_LOOKUP_BUDGET),
     ] {
-        let built = asked.rust().expect("random keys peel");
         lookups_in(&built, kind, &keys, rounds, budget);
     }
     reading(&keys, rounds);
@@ -421,4 +440,85 @@ fn reading(keys: &[u64], rounds: [usize; 2]) {
         }
         println!("{what:<30} {:>11.3}", each(fastest, keys.len()));
     }
+}
+
+/// The image of an index of either kind.
+fn writing(rng: &mut Rng, count: usize, rounds: usize) {
+    let (_, [assigned, compact]) = indexes(rng, count);
+    write(
+        &assigned,
+        &format!("assigned, {count}"),
+        rounds,
+        rust_packed,
+    );
+    write(&compact, &format!("compact, {count}"), rounds, rust_compact);
+}
+
+type RustWriter = fn(&BdzMphf, &mut Vec<u8>);
+
+fn write(built: &BdzMphf, what: &str, rounds: usize, rust: RustWriter) {
+    let index = lent(built);
+    let length = ours::image_len(index.compact, index.n, index.m, index.modulus) as usize;
+    let mut our_image = vec![0u8; length];
+    let mut rust_image = Vec::with_capacity(length);
+    let row = Row {
+        what: &format!("write {what}"),
+        items: built.n as usize,
+        rounds,
+        budget: WRITE_BUDGET,
+    };
+    measure_row(
+        row,
+        || (),
+        || {
+            let status = ours::write_image(black_box(index), &mut our_image);
+            assert_eq!(status, DONE);
+            black_box(&mut our_image);
+        },
+        || {
+            rust_image.clear();
+            rust(black_box(built), &mut rust_image);
+            black_box(&mut rust_image);
+        },
+    );
+    assert!(our_image == rust_image, "{what}: the images differ");
+}
+
+/// What `write_packed_to` does, without the file.
+#[inline(never)]
+fn rust_packed(built: &BdzMphf, image: &mut Vec<u8>) {
+    let width = bdz::g_bits_for_modulus(built.modulus);
+    image.extend_from_slice(&rust_header(built, bdz::MAGIC2, built.modulus, width));
+    let written = bdz::pack_g_write(table_of(built), width, image);
+    written.expect("a vector takes every byte");
+}
+
+/// What `write_compact_to` does, without the file.
+#[inline(never)]
+fn rust_compact(built: &BdzMphf, image: &mut Vec<u8>) {
+    image.extend_from_slice(&rust_header(built, bdz::MAGIC3, 0, bdz::COMPACT_G_BITS));
+    let Some(CompactRank {
+        m,
+        occ: OccBits::Words(words),
+        ..
+    }) = &built.compact
+    else {
+        panic!("the Rust builds in memory");
+    };
+    bdz::pack_g_write(table_of(built), bdz::COMPACT_G_BITS, image)
+        .and_then(|()| bdz::write_occ(words, *m, image))
+        .expect("a vector takes every byte");
+}
+
+/// Both writers put their header together like this.
+fn rust_header(built: &BdzMphf, magic: &[u8; 4], modulus: u32, width: u32) -> [u8; 32] {
+    let mut header = [0; 32];
+    header[0..4].copy_from_slice(magic);
+    header[4..8].copy_from_slice(&bdz::VERSION.to_le_bytes());
+    header[8..12].copy_from_slice(&built.n.to_le_bytes());
+    header[12..16].copy_from_slice(&built.m.to_le_bytes());
+    header[16..24].copy_from_slice(&built.seed.to_le_bytes());
+    header[24..28].copy_from_slice(&modulus.to_le_bytes());
+    header[28..32].copy_from_slice(&width.to_le_bytes());
+    header
 }

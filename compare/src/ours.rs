@@ -14,9 +14,18 @@ pub const ASSIGNED_VALUE: u32 = 3;
 pub const ASSIGNED_DUPLICATE: u32 = 4;
 /// The status of a build whose keys no seed peels.
 pub const NOT_PEELED: u32 = 5;
-/// The status of a call with a width that is 0 or over 32.
+/// The status of an opening of fewer bytes than a BDZ2 header has.
+pub const SHORT_PREAD: u32 = 6;
+/// The status of an opening of fewer bytes than a BDZ3 header has, or than either header asks for.
+pub const G_LENGTH: u32 = 7;
+/// The status of an opening of what does not start as an image of that kind.
+pub const BAD_MAGIC: u32 = 8;
+/// The status of an opening of an image of another version than 1.
+pub const BAD_VERSION: u32 = 9;
+/// The status of a call with a width that is 0 or over 32, or in BDZ3 not 2.
 pub const BAD_WIDTH: u32 = 10;
-/// The status of a lookup in an index of two keys or more whose m or modulus is 0.
+/// The status of a lookup in an index of two keys or more whose m or modulus is 0, and of an opening
+/// of such a BDZ2.
 pub const ZERO_MODULUS: u32 = 11;
 /// The status of a call whose occupancy has fewer bits than there are vertices.
 pub const OCC_TRUNCATED: u32 = 12;
@@ -159,6 +168,43 @@ extern "C" {
         key_room_length: usize,
         out: *mut u32,
         out_length: usize,
+    ) -> u32;
+    fn bdz_image_len(compact: u32, n: u32, m: u32, modulus: u32) -> u64;
+    fn bdz_trailer_off(n: u32, m: u32) -> u64;
+    fn bdz_write_image(
+        compact: u32,
+        n: u32,
+        m: u32,
+        seed: u64,
+        modulus: u32,
+        table: *const u32,
+        table_length: usize,
+        occ: *const u8,
+        occ_length: usize,
+        image: *mut u8,
+        image_length: usize,
+    ) -> u32;
+    fn bdz_open_packed(
+        first: *const u8,
+        first_length: usize,
+        len: u64,
+        answer: *mut u64,
+        answer_length: usize,
+    ) -> u32;
+    fn bdz_open_compact(
+        first: *const u8,
+        first_length: usize,
+        len: u64,
+        answer: *mut u64,
+        answer_length: usize,
+    ) -> u32;
+    fn bdz_audit(
+        n: u32,
+        m: u32,
+        occ: *const u8,
+        occ_length: usize,
+        answer: *mut u64,
+        answer_length: usize,
     ) -> u32;
 }
 
@@ -357,7 +403,7 @@ pub fn rank1(occ: &[u8], supers: &[u32], m: u32, v: u32) -> (u32, u32) {
     }
 }
 
-/// An index as a lookup takes it: its numbers, and the slices that are lent beside them.
+/// An index as a lookup and a writer take it: its numbers, and the slices that are lent beside them.
 #[derive(Clone, Copy)]
 pub struct Index<'a> {
     /// 0 for the assigned kind, any other number for the compact one.
@@ -392,6 +438,72 @@ pub fn index_batch(keys: &[u8], index: Index, key_room: &mut [u64], out: &mut [u
             key_room.len(),
             out.as_mut_ptr(),
             out.len(),
+        )
+    }
+}
+
+pub fn image_len(compact: u32, n: u32, m: u32, modulus: u32) -> u64 {
+    unsafe { bdz_image_len(compact, n, m, modulus) }
+}
+
+pub fn trailer_off(n: u32, m: u32) -> u64 {
+    unsafe { bdz_trailer_off(n, m) }
+}
+
+/// A writer has no use for super counts.
+pub fn write_image(index: Index, image: &mut [u8]) -> u32 {
+    unsafe {
+        bdz_write_image(
+            index.compact,
+            index.n,
+            index.m,
+            index.seed,
+            index.modulus,
+            index.table.as_ptr(),
+            index.table.len(),
+            index.occupancy.as_ptr(),
+            index.occupancy.len(),
+            image.as_mut_ptr(),
+            image.len(),
+        )
+    }
+}
+
+/// Opens an image of `length` bytes by its first ones. The answer is n, m, seed, modulus and width.
+pub fn open_packed(first: &[u8], length: u64, answer: &mut [u64]) -> u32 {
+    unsafe {
+        bdz_open_packed(
+            first.as_ptr(),
+            first.len(),
+            length,
+            answer.as_mut_ptr(),
+            answer.len(),
+        )
+    }
+}
+
+pub fn open_compact(first: &[u8], length: u64, answer: &mut [u64]) -> u32 {
+    unsafe {
+        bdz_open_compact(
+            first.as_ptr(),
+            first.len(),
+            length,
+            answer.as_mut_ptr(),
+            answer.len(),
+        )
+    }
+}
+
+/// The answer is the ones, and 1 where they are n.
+pub fn audit(n: u32, m: u32, occ: &[u8], answer: &mut [u64]) -> u32 {
+    unsafe {
+        bdz_audit(
+            n,
+            m,
+            occ.as_ptr(),
+            occ.len(),
+            answer.as_mut_ptr(),
+            answer.len(),
         )
     }
 }

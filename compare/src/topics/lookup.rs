@@ -15,8 +15,8 @@ use crate::rng::Rng;
 use crate::tally::{Difference, Tally};
 use crate::IoCtx;
 
-/// Numbers of keys over `SMALL`, each looked up in one index of either kind.
-const LARGE: [usize; 4] = [1_000, 5_000, 60_000, 1_000_000];
+/// Numbers of keys over `SMALL`, each of them with one index of either kind.
+pub const LARGE: [usize; 4] = [1_000, 5_000, 60_000, 1_000_000];
 /// Keys that are looked up one by one in each built index, and as many strangers.
 const SINGLE: usize = 4;
 /// Rounds of every size with indexes that are made by hand, for either kind.
@@ -96,15 +96,15 @@ pub fn lent(built: &BdzMphf) -> Index<'_> {
 
 /// An index that owns what it lends. What it lends may be longer or shorter than its numbers ask.
 #[derive(Clone)]
-struct Record {
-    compact: bool,
-    n: u32,
-    m: u32,
-    seed: u64,
-    modulus: u32,
-    table: Vec<u32>,
-    occupancy: Vec<u8>,
-    supers: Vec<u32>,
+pub struct Record {
+    pub compact: bool,
+    pub n: u32,
+    pub m: u32,
+    pub seed: u64,
+    pub modulus: u32,
+    pub table: Vec<u32>,
+    pub occupancy: Vec<u8>,
+    pub supers: Vec<u32>,
 }
 
 impl Record {
@@ -121,7 +121,7 @@ impl Record {
         }
     }
 
-    fn lent(&self) -> Index<'_> {
+    pub fn lent(&self) -> Index<'_> {
         Index {
             compact: u32::from(self.compact),
             n: self.n,
@@ -135,7 +135,7 @@ impl Record {
     }
 
     /// The Rust's index of the same numbers, which owns what is lent here.
-    fn rust(&self) -> BdzMphf {
+    pub fn rust(&self) -> BdzMphf {
         let rank = || rust_rank(self.m, &self.occupancy, &self.supers);
         BdzMphf {
             n: self.n,
@@ -148,7 +148,7 @@ impl Record {
     }
 
     /// With more lent than before, or as much: of what the kind does not use as well.
-    fn lengthened(&self, rng: &mut Rng) -> Self {
+    pub fn lengthened(&self, rng: &mut Rng) -> Self {
         Self {
             table: lengthened(rng, &self.table),
             occupancy: lengthened(rng, &self.occupancy),
@@ -158,7 +158,7 @@ impl Record {
     }
 
     /// With less lent than before, or as much.
-    fn cut(&self, rng: &mut Rng) -> Self {
+    pub fn cut(&self, rng: &mut Rng) -> Self {
         let mut kept = |length: usize| rng.below_usize(length + 1);
         Self {
             table: self.table[..kept(self.table.len())].to_vec(),
@@ -204,10 +204,10 @@ impl Record {
         }
     }
 
-    fn describe(&self, keys: &[u64], room: Room) -> String {
+    /// For a report.
+    pub fn describe(&self) -> String {
         format!(
-            "compact {}, n {}, m {}, seed {:#x}, modulus {}, {}, {}, {}, {}, {room:?}; the answers \
-             are the status and the first element of a buffer that is not left as it must be",
+            "compact {}, n {}, m {}, seed {:#x}, modulus {}, {}, {}, {}",
             self.compact,
             self.n,
             self.m,
@@ -215,8 +215,7 @@ impl Record {
             self.modulus,
             listed("words", &self.table),
             listed("bytes of occupancy", &self.occupancy),
-            listed("super counts", &self.supers),
-            listed("keys", keys)
+            listed("super counts", &self.supers)
         )
     }
 }
@@ -310,7 +309,12 @@ fn check(
         .fault("key_room", read)
         .or_else(|| answers.fault("answers", left));
     tally.same_all(what, inputs, (status, fault), (agreed, None), || {
-        record.describe(keys, room)
+        format!(
+            "{}, {}, {room:?}; the answers are the status and the first element of a buffer that \
+             is not left as it must be",
+            record.describe(),
+            listed("keys", keys)
+        )
     })?;
     let found = answers.given().iter().copied().take(keys.len()).collect();
     Ok((status, found))
@@ -382,7 +386,7 @@ fn compact(tally: &mut Tally, rng: &mut Rng, n: usize, set: u64) -> Result<(), D
 }
 
 /// Different keys and the Rust's index of them. Keys that do not peel are drawn again.
-fn drawn(
+pub fn drawn(
     rng: &mut Rng,
     n: usize,
     set: u64,
@@ -435,7 +439,7 @@ fn some_keys(rng: &mut Rng, record: &Record, count: usize) -> Vec<u64> {
 }
 
 /// Every m up to 70, about the ends of blocks, and others; most of them are no multiple of 3.
-fn sizes(rng: &mut Rng) -> Vec<u32> {
+pub fn sizes(rng: &mut Rng) -> Vec<u32> {
     let mut sizes: Vec<u32> = (1..=70).collect();
     sizes.extend(ranks::SIZES.iter().filter(|&&m| m > 70));
     sizes.extend((0..20).map(|_| 71 + rng.below(3_000) as u32));
@@ -444,7 +448,7 @@ fn sizes(rng: &mut Rng) -> Vec<u32> {
 
 /// An index of two keys or more that no build makes, with exactly what it needs: any words, so that
 /// sums wrap, any bits, and super counts of them or of others.
-fn made(rng: &mut Rng, compact: bool, m: u32) -> Record {
+pub fn made(rng: &mut Rng, compact: bool, m: u32) -> Record {
     let (bytes, supers) = match compact {
         true => ranks::needs(m),
         false => (0, 0),

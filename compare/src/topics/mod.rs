@@ -1,10 +1,15 @@
 //! The topics of the comparison, one a file.
 
+mod audit;
 mod build_assigned;
 mod build_compact;
 pub mod builds;
+mod cut;
+mod files;
+mod images;
 pub mod lookup;
 mod mix;
+mod openings;
 mod pack;
 mod ranks;
 mod sizes;
@@ -20,7 +25,7 @@ pub struct Topic {
     run: fn(&mut Tally, &mut Rng) -> Result<(), Difference>,
 }
 
-pub const ALL: [Topic; 9] = [
+pub const ALL: [Topic; 13] = [
     mix::TOPIC,
     verts::TOPIC,
     sizes::TOPIC,
@@ -30,6 +35,10 @@ pub const ALL: [Topic; 9] = [
     build_compact::TOPIC,
     ranks::TOPIC,
     lookup::TOPIC,
+    images::TOPIC,
+    openings::TOPIC,
+    cut::TOPIC,
+    audit::TOPIC,
 ];
 
 impl Topic {
