@@ -24,8 +24,8 @@ pub const BAD_MAGIC: u32 = 8;
 pub const BAD_VERSION: u32 = 9;
 /// The status of a call with a width that is 0 or over 32, or in BDZ3 not 2.
 pub const BAD_WIDTH: u32 = 10;
-/// The status of a lookup in an index of two keys or more whose m or modulus is 0, and of an opening
-/// of such a BDZ2.
+/// The status of a lookup in an index of two keys or more whose m or modulus is 0, and of an
+/// opening of such a BDZ2.
 pub const ZERO_MODULUS: u32 = 11;
 /// The status of a call whose occupancy has fewer bits than there are vertices.
 pub const OCC_TRUNCATED: u32 = 12;
@@ -403,7 +403,7 @@ pub fn rank1(occ: &[u8], supers: &[u32], m: u32, v: u32) -> (u32, u32) {
     }
 }
 
-/// An index as a lookup and a writer take it: its numbers, and the slices that are lent beside them.
+/// An index as a lookup and a writer take it: its numbers, and the slices lent beside them.
 #[derive(Clone, Copy)]
 pub struct Index<'a> {
     /// 0 for the assigned kind, any other number for the compact one.

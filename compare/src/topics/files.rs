@@ -1,35 +1,40 @@
-//! The Rust's images are files: the folder that holds one at a time, and what the Rust writes to it
-//! and reads from it.
+//! The Rust's images are files: the folder that holds them, and what the Rust writes to it and
+//! reads from it.
 
 use crate::bdz::{self, BdzMphf, GStore};
 use crate::error::StoreError;
 use crate::lent::Loan;
 use crate::ours::{BAD_MAGIC, BAD_VERSION, BAD_WIDTH, DONE, G_LENGTH, SHORT_PREAD, ZERO_MODULUS};
 use std::fs::{self, File};
-use std::io::Write;
+use std::os::unix::fs::FileExt;
 use std::path::PathBuf;
 
 /// The bytes of a header of either kind.
 pub const HEADER: usize = bdz::HEADER_LEN2 as usize;
 
 /// A folder of its own for one topic of one run. It goes when it is dropped, also after a failure.
-pub struct Folder(PathBuf);
+pub struct Folder {
+    path: PathBuf,
+    /// The file that the Rust opens. It stays open here and is written over each time, which is far
+    /// quicker than a new one.
+    laid: File,
+}
 
 impl Folder {
     pub fn new(topic: &str) -> Self {
         let name = format!("bdz-compare-{}-{topic}", std::process::id());
         let path = std::env::temp_dir().join(name);
         fs::create_dir(&path).expect("a folder can be made for the files");
-        Self(path)
-    }
-
-    fn file(&self) -> PathBuf {
-        self.0.join("image")
+        let [laid, _] = ["laid", "empty"].map(|name| {
+            let made = File::create_new(path.join(name));
+            made.expect("a file can be made")
+        });
+        Self { path, laid }
     }
 
     /// The image that the Rust writes.
     pub fn written(&self, index: &BdzMphf) -> Vec<u8> {
-        let path = self.file();
+        let path = self.path.join("written");
         let written = match index.compact {
             Some(_) => index.write_compact_to(&path),
             None => index.write_packed_to(&path),
@@ -45,36 +50,35 @@ impl Folder {
             0..HEADER => length.min(first.len() as u64),
             _ => length,
         };
-        self.lay(first, length);
+        let path = self.lay(first, length);
         let answer = match compact {
-            true => BdzMphf::read_compact_from(&self.file()),
-            false => BdzMphf::read_packed_from(&self.file()),
+            true => BdzMphf::read_compact_from(&path),
+            false => BdzMphf::read_packed_from(&path),
         };
         Opened::of_rust(answer, first)
     }
 
-    /// Makes the file anew, with zeros where the first bytes are fewer than it has. They take no
-    /// place in it, so that it can be as long as the largest index asks. The one before is removed,
-    /// not cut: a file system may wait for the disk when a file that was cut to nothing is closed.
-    fn lay(&self, first: &[u8], length: u64) {
-        let path = self.file();
-        if path.exists() {
-            fs::remove_file(&path).expect("the file before can be removed");
+    /// A file of so many bytes, with zeros where the first ones are fewer. They take no place in
+    /// it, so that it can be as long as the largest index asks. No file is ever cut to nothing: a
+    /// file system may wait for the disk after that.
+    fn lay(&self, first: &[u8], length: u64) -> PathBuf {
+        if length == 0 {
+            return self.path.join("empty");
         }
-        let kept = usize::try_from(length).map_or(first.len(), |length| length.min(first.len()));
-        File::create_new(path)
-            .and_then(|mut file| {
-                file.write_all(&first[..kept])?;
-                file.set_len(length)
-            })
+        let kept = length.min(first.len() as u64);
+        self.laid
+            .write_all_at(&first[..kept as usize], 0)
+            .and_then(|()| self.laid.set_len(kept))
+            .and_then(|()| self.laid.set_len(length))
             .expect("the file can be written");
+        self.path.join("laid")
     }
 }
 
 impl Drop for Folder {
     fn drop(&mut self) {
-        if let Err(error) = fs::remove_dir_all(&self.0) {
-            eprintln!("{} is left behind: {error}", self.0.display());
+        if let Err(error) = fs::remove_dir_all(&self.path) {
+            eprintln!("{} is left behind: {error}", self.path.display());
         }
     }
 }

@@ -95,7 +95,7 @@ pub fn our_image(record: &Record) -> Vec<u8> {
 }
 
 /// Assigned images of every width: built ones where a build takes the modulus, and made ones, whose
-/// words have all 32 bits; the latter also about the end of the first page that the Rust packs into.
+/// words have all 32 bits; those also about the end of the first page that the Rust packs into.
 fn every_width(tally: &mut Tally, rng: &mut Rng, folder: &Folder) -> Result<(), Difference> {
     for width in 1..=32 {
         for modulus in moduli(rng, width) {
@@ -144,8 +144,8 @@ fn made_assigned(
     check(tally, rng, folder, "made assigned images", &record)
 }
 
-/// No keys: the header alone, with any m and seed. The Rust writes all words that its index holds, so
-/// it holds none. One key: any number of words.
+/// No keys: the header alone, with any m and seed. The Rust writes all words that its index holds,
+/// so it holds none. One key: any number of words.
 fn few_keys(tally: &mut Tally, rng: &mut Rng, folder: &Folder) -> Result<(), Difference> {
     for compact in [false, true] {
         for (n, what) in [(0, "images of no keys"), (1, "images of one key")] {
@@ -186,8 +186,8 @@ fn check(
     short_buffers(tally, rng, record, &image)
 }
 
-/// Writes into a dirty buffer of `room` bytes. The case is meant to come to this status, and must not
-/// be another one by mistake.
+/// Writes into a dirty buffer of `room` bytes. The case is meant to come to this status, and must
+/// not be another one by mistake.
 fn write(
     tally: &mut Tally,
     rng: &mut Rng,

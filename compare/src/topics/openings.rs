@@ -137,8 +137,8 @@ fn first_bytes(rng: &mut Rng, header: &[u8], image: &[u8]) -> Vec<u8> {
     [header, &behind].concat()
 }
 
-/// Opens an image of so many bytes, of which these are the first, in a dirty answer; and answers what
-/// both sides came to.
+/// Opens an image of so many bytes, of which these are the first, in a dirty answer; and answers
+/// what both sides came to.
 pub fn check(
     tally: &mut Tally,
     rng: &mut Rng,
