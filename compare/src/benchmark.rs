@@ -53,10 +53,11 @@ pub fn print_table() {
          is part of its time"
     );
     println!(
-        "lookups: ns per key, of all keys that were built, {} rounds; ours reads the keys from \
-         bytes into a lent room; cold: before each timed call of either side a byte is changed in \
+        "lookups: ns per key, of all keys that were built, {} rounds; the keys are \
+         words on both sides; cold: before each timed call of either side a byte is changed in \
          every {LINE} of {} MiB, which drives out of the caches what the call is about to use; \
-         keys read alone: a lookup in an index of no keys, which reads the keys and answers 0s",
+         keys read alone: what a call with keys as bytes adds, which reads them into a lent \
+         room (in an index of no keys, which answers 0s)",
         LOOKUPS
             .map(|(keys, [warm, cold])| format!("{keys} keys {warm} warm and {cold} cold"))
             .join(", "),
@@ -347,8 +348,6 @@ fn lookups(rng: &mut Rng, count: usize, rounds: [usize; 2]) {
 
 /// From a warm start, and then from a cold one.
 fn lookups_in(built: &BdzMphf, kind: &str, keys: &[u64], rounds: [usize; 2], budget: f64) {
-    let bytes = key_bytes(keys);
-    let mut key_room = vec![0u64; keys.len()];
     let mut eviction = vec![0u8; EVICTION];
     for (start, rounds) in Start::BOTH.into_iter().zip(rounds) {
         let what = &format!("lookup {kind}, {}{}", keys.len(), start.name());
@@ -364,8 +363,8 @@ fn lookups_in(built: &BdzMphf, kind: &str, keys: &[u64], rounds: [usize; 2], bud
             row,
             || start.prepare(&mut eviction),
             || {
-                let (bytes, index) = (black_box(&bytes[..]), black_box(lent(built)));
-                let status = ours::index_batch(bytes, index, &mut key_room, &mut our_out);
+                let (keys, index) = (black_box(keys), black_box(lent(built)));
+                let status = ours::index_words(keys, index, &mut our_out);
                 assert_eq!(status, DONE);
                 black_box(&mut our_out);
             },

@@ -169,6 +169,23 @@ extern "C" {
         out: *mut u32,
         out_length: usize,
     ) -> u32;
+    fn bdz_index_words(
+        keys: *const u64,
+        keys_length: usize,
+        compact: u32,
+        n: u32,
+        m: u32,
+        seed: u64,
+        modulus: u32,
+        table: *const u32,
+        table_length: usize,
+        occ: *const u8,
+        occ_length: usize,
+        supers: *const u32,
+        supers_length: usize,
+        out: *mut u32,
+        out_length: usize,
+    ) -> u32;
     fn bdz_image_len(compact: u32, n: u32, m: u32, modulus: u32) -> u64;
     fn bdz_trailer_off(n: u32, m: u32) -> u64;
     fn bdz_write_image(
@@ -436,6 +453,29 @@ pub fn index_batch(keys: &[u8], index: Index, key_room: &mut [u64], out: &mut [u
             index.supers.len(),
             key_room.as_mut_ptr(),
             key_room.len(),
+            out.as_mut_ptr(),
+            out.len(),
+        )
+    }
+}
+
+/// The same with keys that are words already, as the Rust's are.
+pub fn index_words(keys: &[u64], index: Index, out: &mut [u32]) -> u32 {
+    unsafe {
+        bdz_index_words(
+            keys.as_ptr(),
+            keys.len(),
+            index.compact,
+            index.n,
+            index.m,
+            index.seed,
+            index.modulus,
+            index.table.as_ptr(),
+            index.table.len(),
+            index.occupancy.as_ptr(),
+            index.occupancy.len(),
+            index.supers.as_ptr(),
+            index.supers.len(),
             out.as_mut_ptr(),
             out.len(),
         )

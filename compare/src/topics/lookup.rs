@@ -268,6 +268,26 @@ impl Room {
     }
 }
 
+/// What is wrong with the same lookup of keys that are words already. It needs no room for them, so
+/// that a refusal for want of it has no counterpart.
+fn words_fault(
+    rng: &mut Rng,
+    keys: &[u64],
+    index: Index,
+    room: Room,
+    (agreed, left): (u32, Left<u32>),
+) -> Option<String> {
+    if room.keys < keys.len() {
+        return None;
+    }
+    let words = Fenced::new(rng, keys);
+    let mut answers = Lent::new(rng, room.answers);
+    match ours::index_words(words.given(), index, answers.given_mut()) {
+        status if status != agreed => Some(format!("status {status} for keys that are words")),
+        _ => answers.fault("answers to words", left),
+    }
+}
+
 /// Looks the keys up in dirty buffers, and answers the status and what was found.
 fn check(
     tally: &mut Tally,
@@ -307,7 +327,8 @@ fn check(
     };
     let fault = key_room
         .fault("key_room", read)
-        .or_else(|| answers.fault("answers", left));
+        .or_else(|| answers.fault("answers", left))
+        .or_else(|| words_fault(rng, keys, index, room, (agreed, left)));
     tally.same_all(what, inputs, (status, fault), (agreed, None), || {
         format!(
             "{}, {}, {room:?}; the answers are the status and the first element of a buffer that \

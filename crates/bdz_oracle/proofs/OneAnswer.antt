@@ -22,6 +22,7 @@ use Rattle.bdz_oracle.proofs.imaging.bdz_open_packed.Reads as bdz-open-
 use Rattle.bdz_oracle.proofs.imaging.bdz_trailer_off.Reads as bdz-trailer-off
 use Rattle.bdz_oracle.proofs.imaging.bdz_write_image.Reads as bdz-write-image
 use Rattle.bdz_oracle.proofs.looking.bdz_index_batch.Reads as bdz-index-batch
+use Rattle.bdz_oracle.proofs.looking.bdz_index_words.Reads as bdz-index-words
 use Rattle.bdz_oracle.proofs.looking.bdz_popcount_bits.Reads as bdz-popcount-bits
 use Rattle.bdz_oracle.proofs.looking.bdz_rank1.Reads as bdz-rank1
 use Rattle.bdz_oracle.proofs.looking.bdz_rank1_no.Reads as bdz-rank1-no
@@ -92,6 +93,9 @@ one-bdz-rank1-no κs a x y s t p q = p ∙ sym q
 
 pub one-bdz-index-batch : (κs : _) (a : _) → OneOutcome (λ s. (s .1 .1 .1 .1 .1 .1 .1 .1 .1 .0 .now ∷ s .1 .1 .1 .1 .1 .1 .1 .1 .1 .1 .0 .now ∷ [])) (bdz-index-batch.Post κs a)
 one-bdz-index-batch κs a x y s t p q = (p .number-is ∙ sym (q .number-is), rw (p .key-room-is, p .out-is, q .key-room-is, q .out-is))
+
+pub one-bdz-index-words : (κs : _) (a : _) → OneOutcome (λ s. s .1 .1 .1 .1 .1 .1 .1 .1 .1 .0 .now) (bdz-index-words.Post κs a)
+one-bdz-index-words κs a x y s t p q = (p .number-is ∙ sym (q .number-is), p .after-is ∙ sym (q .after-is))
 
 pub one-bdz-image-len : (κs : _) (a : _) → OneResult (bdz-image-len.Post κs a)
 one-bdz-image-len κs a x y s t p q = p ∙ sym q

@@ -1,6 +1,7 @@
 // Ones, super counts and lookups, exported.
 ghost use mathlib.Core.Path.{_≡_};
 ghost use Prim.Native.Nat.{_%_, _^_};
+ghost use Rattle.bdz_table.specs.Lookup.{LookedUp};
 ghost use Rattle.bdz_table.specs.Rank.{onesBetween, SuperCounted, rankedOf};
 ghost use Rattle.bdz_oracle.specs.Looking.{indexOf, ToldLookup};
 use super::reading::kind_of;
@@ -71,4 +72,31 @@ pub extern "C" fn bdz_index_batch(
         width: 0,
     };
     index_batch(index, &key_room[..count], table, occ, supers, out)
+}
+
+// The same where the keys are words already.
+#[no_mangle]
+pub extern "C" fn bdz_index_words(
+    keys: &[u64],
+    compact: u32,
+    n: u32,
+    m: u32,
+    seed: u64,
+    modulus: u32,
+    table: &[u32],
+    occ: &[u8],
+    supers: &[u32],
+    out: &mut [u32],
+) -> u32
+    ensures { λ r. ⌜ LookedUp (indexOf compact n m seed modulus) (now (keys .entry)) (now (table .entry)) (now (occ .entry)) (now (supers .entry)) (now (out .entry)) r (now (out .exit)) ⌝ }
+{
+    let index = Index {
+        kind: kind_of(compact),
+        n,
+        m,
+        seed,
+        modulus,
+        width: 0,
+    };
+    index_batch(index, keys, table, occ, supers, out)
 }
