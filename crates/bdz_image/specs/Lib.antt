@@ -1,5 +1,14 @@
+pub mod Ask
 pub mod Audit
+pub mod Entry
+pub mod Feed
 pub mod Header
 pub mod Image
 pub mod Open
+pub mod Page
+pub mod Pages
+pub mod Radix
+pub mod Sort
+pub mod Start
+pub mod Sweep
 pub mod Write

@@ -1,6 +1,15 @@
-// Images: their header, their writer, the two openers, and the audit.
+// Images: their header, their writer, the two openers, the audit, and the page feed.
+pub mod ask;
 pub mod audit;
+pub mod bits;
+pub mod entry;
 pub mod header;
+pub mod list;
 pub mod open;
+pub mod page;
+pub mod radix;
 pub mod size;
+pub mod slot;
+pub mod start;
+pub mod sweep;
 pub mod write;
