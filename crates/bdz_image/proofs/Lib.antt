@@ -7,6 +7,7 @@ pub mod Buckets
 pub mod Cut
 pub mod Demand
 pub mod Entries
+pub mod Feeds
 pub mod Fields
 pub mod Judged
 pub mod Listed

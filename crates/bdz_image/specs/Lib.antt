@@ -2,6 +2,7 @@ pub mod Ask
 pub mod Audit
 pub mod Entry
 pub mod Feed
+pub mod Feeding
 pub mod Header
 pub mod Image
 pub mod Open

@@ -3,6 +3,7 @@ pub mod ask;
 pub mod audit;
 pub mod bits;
 pub mod entry;
+pub mod feed;
 pub mod header;
 pub mod list;
 pub mod open;
