@@ -20,5 +20,6 @@ pub mod PageNos
 pub mod Passes
 pub mod Place
 pub mod Small
+pub mod Starting
 pub mod Sweeps
 pub mod Writing

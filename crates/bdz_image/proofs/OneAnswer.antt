@@ -1,8 +1,10 @@
 -- Each public promise leaves one answer, and one content of every lent buffer. Assumes nothing.
 use mathlib.Core.Path.{sym, _∙_}
+use mathlib.Core.List.{[], _∷_}
 use Rattle.bdz_base.proofs.OneAnswer.{OneResult, OneOutcome}
 use Rattle.bdz_image.proofs.audit.audit.Reads as audit
 use Rattle.bdz_image.proofs.feed.feed_page.Reads as feed-page
+use Rattle.bdz_image.proofs.feed.feed_start.Reads as feed-start
 use Rattle.bdz_image.proofs.open.open_compact.Reads as open-compact
 use Rattle.bdz_image.proofs.open.open_packed.Reads as open-packed
 use Rattle.bdz_image.proofs.size.image_len.Reads as image-len
@@ -26,6 +28,9 @@ one-open-compact κs a x y s t p q = p ∙ sym q
 
 pub one-audit : (κs : _) (a : _) → OneResult (audit.Post κs a)
 one-audit κs a x y s t p q = p ∙ sym q
+
+pub one-feed-start : (κs : _) (a : _) → OneOutcome (λ s. (s .1 .1 .1 .0 .now ∷ s .1 .1 .1 .1 .0 .now ∷ s .1 .1 .1 .1 .1 .0 .now ∷ [])) (feed-start.Post κs a)
+one-feed-start κs a x y s t p q = (p .feed-is ∙ sym (q .feed-is), rw (p .order-is, p .slots-are, p .pages-are, q .order-is, q .slots-are, q .pages-are))
 
 pub one-feed-page : (κs : _) (a : _) → OneOutcome (λ s. s .1 .1 .1 .1 .1 .0 .now) (feed-page.Post κs a)
 one-feed-page κs a x y s t p q = (p .number-is ∙ sym (q .number-is), p .slots-are ∙ sym (q .slots-are))

@@ -1,13 +1,26 @@
 // The page feed's public calls.
 ghost use mathlib.Core.Path.{_≡_};
-ghost use Rattle.bdz_image.specs.Feeding.{feedM, listsNone, pageEarly, PageFed};
+ghost use lib.ListN.{length};
+ghost use Rattle.bdz_image.specs.Feeding.{feedM, listsNone, listsPages, occupancyNo, feedNo, startRoom, pageEarly, feedOf, Opened, PageFed};
 use super::page::feed;
+use super::start::start;
 use bdz_base::refusal::ACCEPTED;
 use bdz_base::refusal::G_BITS;
 use bdz_base::refusal::NO_ROOM;
+use bdz_base::refusal::OCC_TRUNCATED;
 use bdz_base::refusal::PAGE_NOT_LISTED;
+use bdz_base::refusal::TOO_LARGE;
+use bdz_base::refusal::ZERO_MODULUS;
+use bdz_base::size::occ_packed_bytes;
 use bdz_base::verts::Kind;
 use bdz_table::index::Index;
+
+// A refusal number, or 0 and how many keys the feed has and how many pages it lists.
+pub struct Feed {
+    pub no: u32,
+    pub keys: u64,
+    pub pages: u64,
+}
 
 // n = 1 is one word, whatever m says.
 fn feed_m(index: Index) -> u32
@@ -26,6 +39,140 @@ fn lists_none(kind: Kind, n: u32) -> bool
     match kind {
         Kind::Assigned => false,
         Kind::Compact => n == 1,
+    }
+}
+
+// Whether a feed of so many keys lists pages.
+fn lists_pages(index: Index, keys: u64) -> bool
+    ensures { λ r. ⌜ r ≡ listsPages index keys ⌝ }
+{
+    let kind = index.kind;
+    if keys == 0 {
+        return false;
+    }
+    if index.n == 0 {
+        return false;
+    }
+    if lists_none(kind, index.n) {
+        return false;
+    }
+    true
+}
+
+// 12, or what comes after it.
+fn occupancy_no(kind: Kind, m: u32, occ: usize, next: u32) -> u32
+    ensures { λ r. ⌜ r ≡ occupancyNo kind m occ next ⌝ }
+{
+    match kind {
+        Kind::Assigned => next,
+        Kind::Compact => {
+            if (occ as u64) < occ_packed_bytes(m) {
+                return OCC_TRUNCATED;
+            }
+            next
+        }
+    }
+}
+
+// The checks of a start, of which room is the last.
+fn feed_no(index: Index, keys: u64, occ: usize, room: u32) -> u32
+    ensures { λ r. ⌜ r ≡ feedNo index keys occ room ⌝ }
+{
+    let kind = index.kind;
+    if keys == 0 {
+        return ACCEPTED;
+    }
+    if index.n == 0 {
+        return ACCEPTED;
+    }
+    if index.width == 0 {
+        return G_BITS;
+    }
+    if 32 < index.width {
+        return G_BITS;
+    }
+    if lists_none(kind, index.n) {
+        return ACCEPTED;
+    }
+    if index.n == 1 {
+        return room;
+    }
+    if index.m == 0 {
+        return ZERO_MODULUS;
+    }
+    if index.modulus == 0 {
+        return ZERO_MODULUS;
+    }
+    occupancy_no(kind, index.m, occ, room)
+}
+
+// 13 or 14 by the lengths of what is lent, or 0.
+fn start_room(keys: usize, order: usize, slots: usize, pages: usize) -> u32
+    ensures { λ r. ⌜ r ≡ startRoom keys order slots pages ⌝ }
+{
+    if 1073741824 < keys {
+        return TOO_LARGE;
+    }
+    if order < 3 * keys {
+        return NO_ROOM;
+    }
+    if slots < 3 * keys {
+        return NO_ROOM;
+    }
+    if pages < 6 * keys {
+        return NO_ROOM;
+    }
+    ACCEPTED
+}
+
+// A feed for keys: the order of their slots, the slots, and the pages that they wait for, rising, each once. 10, 11, 12, 13, 14.
+pub fn feed_start(
+    index: Index,
+    keys: &[u64],
+    occ: &[u8],
+    order: &mut [u64],
+    slots: &mut [u64],
+    pages: &mut [u32],
+) -> Feed
+    ensures { λ r. ⌜ Opened index (now (keys .entry)) (length (now (occ .entry))) (now (order .entry)) (now (slots .entry)) (now (pages .entry)) r (now (order .exit)) (now (slots .exit)) (now (pages .exit)) ⌝ }
+{
+    let count = keys.len();
+    let kind = index.kind;
+    let no = feed_no(
+        index,
+        count as u64,
+        occ.len(),
+        start_room(count, order.len(), slots.len(), pages.len()),
+    );
+    if no != ACCEPTED {
+        return Feed {
+            no,
+            keys: 0,
+            pages: 0,
+        };
+    }
+    if lists_pages(index, count as u64) {
+        let need = 3 * count;
+        let listed = start(
+            kind,
+            keys,
+            index.seed,
+            feed_m(index),
+            index.width,
+            &mut order[..need],
+            &mut slots[..need],
+            &mut pages[..2 * need],
+        );
+        return Feed {
+            no: ACCEPTED,
+            keys: count as u64,
+            pages: listed as u64,
+        };
+    }
+    Feed {
+        no: ACCEPTED,
+        keys: count as u64,
+        pages: 0,
     }
 }
 
