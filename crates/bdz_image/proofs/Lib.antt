@@ -1,5 +1,6 @@
 pub mod Accepts
 pub mod Any
+pub mod Asking
 pub mod Asks
 pub mod Auditing
 pub mod Begins

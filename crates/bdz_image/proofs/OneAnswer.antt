@@ -3,10 +3,12 @@ use mathlib.Core.Path.{sym, _∙_}
 use mathlib.Core.List.{[], _∷_}
 use Rattle.bdz_base.proofs.OneAnswer.{OneResult, OneOutcome}
 use Rattle.bdz_image.proofs.audit.audit.Reads as audit
+use Rattle.bdz_image.proofs.feed.feed_ask.Reads as feed-ask
 use Rattle.bdz_image.proofs.feed.feed_page.Reads as feed-page
 use Rattle.bdz_image.proofs.feed.feed_start.Reads as feed-start
 use Rattle.bdz_image.proofs.open.open_compact.Reads as open-compact
 use Rattle.bdz_image.proofs.open.open_packed.Reads as open-packed
+use Rattle.bdz_image.proofs.page.g_page_need.Reads as g-page-need
 use Rattle.bdz_image.proofs.size.image_len.Reads as image-len
 use Rattle.bdz_image.proofs.size.trailer_off.Reads as trailer-off
 use Rattle.bdz_image.proofs.write.write_image.Reads as write-image
@@ -34,3 +36,9 @@ one-feed-start κs a x y s t p q = (p .feed-is ∙ sym (q .feed-is), rw (p .orde
 
 pub one-feed-page : (κs : _) (a : _) → OneOutcome (λ s. s .1 .1 .1 .1 .1 .0 .now) (feed-page.Post κs a)
 one-feed-page κs a x y s t p q = (p .number-is ∙ sym (q .number-is), p .slots-are ∙ sym (q .slots-are))
+
+pub one-feed-ask : (κs : _) (a : _) → OneResult (feed-ask.Post κs a)
+one-feed-ask κs a x y s t p q = p ∙ sym q
+
+pub one-g-page-need : (κs : _) (a : _) → OneResult (g-page-need.Post κs a)
+one-g-page-need κs a x y s t p q = p ∙ sym q

@@ -1,17 +1,22 @@
--- A feed's start and a page that is fed: every refusal in document 01's order, and what the lent buffers then hold. Assumes nothing.
+-- A feed's start, a page that is fed and a key that is asked for: every refusal in document 01's order, and what the lent buffers then hold. Assumes nothing.
 use mathlib.Core.Path.{_≡_}
 use mathlib.Core.Bool.{Bool, true, false, cond}
 use mathlib.Core.List.{List}
 use Prim.Native.Nat.{ℕ, _-_, _*_, _^_}
 use lib.Dec.{eqb, ltb}
-use lib.ListN.{length, take, replicate}
+use lib.ListN.{length, getD, take, replicate}
 use Rattle.bdz_base.specs.Buffer.{tab, over, written}
 use Rattle.bdz_base.specs.Refusal.{refuse, accept}
-use Rattle.bdz_base.specs.Sizes.{occupancyBytes}
+use Rattle.bdz_base.specs.Sizes.{occupancyBytes, superCount}
 use Rattle.bdz_base.specs.declared.verts.Kind.{Kind}
 use Rattle.bdz_base.specs.declared.verts.Kind.the-variants.{Assigned, Compact}
+use Rattle.bdz_table.specs.Lookup.{finishedOf, finishOf}
+use Rattle.bdz_table.specs.Rank.{answered}
+use Rattle.bdz_table.specs.declared.index.Answer.{Answer}
 use Rattle.bdz_table.specs.declared.index.Index.{Index}
+use Rattle.bdz_image.specs.declared.ask.Words.{Words}
 use Rattle.bdz_image.specs.declared.feed.Feed.{Feed}
+use Rattle.bdz_image.specs.Ask.{wordsOf}
 use Rattle.bdz_image.specs.Entry.{entryAt}
 use Rattle.bdz_image.specs.Feed.{slot}
 use Rattle.bdz_image.specs.Page.{pageNo, pageSlots}
@@ -72,6 +77,10 @@ orderOf index keys = inOrder (tab (entryAt (index .kind) keys (index .seed) (fee
 abbrev pub pagesOf : Index → List ℕ → List ℕ
 pagesOf index keys = listOf (index .width) (orderOf index keys)
 
+-- three slots a key, with every bit of a word missing
+abbrev pub freshSlots : Index → ℕ → List ℕ
+freshSlots index keys = replicate (3 * keys) (slot (2 ^ index .width - 1) 0)
+
 -- the lent buffers are written where the start is accepted and lists pages
 abbrev pub begun : Index → ℕ → ℕ → List ℕ → List ℕ → List ℕ
 begun index keys number new old = cond (listsPages index keys) (written number new old) old
@@ -87,7 +96,7 @@ feedOf index keys number =
 pub record Opened (index : Index) (keys : List ℕ) (occ : ℕ) (order slots pages : List ℕ) (feed : Feed) (order-after slots-after pages-after : List ℕ) : Type 0 where
   pub feed-is : feed ≡ feedOf index keys (startNo index (length keys) occ (length order) (length slots) (length pages))
   pub order-is : order-after ≡ begun index (length keys) (startNo index (length keys) occ (length order) (length slots) (length pages)) (orderOf index keys) order
-  pub slots-are : slots-after ≡ begun index (length keys) (startNo index (length keys) occ (length order) (length slots) (length pages)) (replicate (3 * length keys) (slot (2 ^ index .width - 1) 0)) slots
+  pub slots-are : slots-after ≡ begun index (length keys) (startNo index (length keys) occ (length order) (length slots) (length pages)) (freshSlots index (length keys)) slots
   pub pages-are : pages-after ≡ begun index (length keys) (startNo index (length keys) occ (length order) (length slots) (length pages)) (padded (6 * length keys) (pagesOf index keys)) pages
 
 -- ---- a page
@@ -115,3 +124,51 @@ feedPageNo index keys page bytes order slots =
 pub record PageFed (index : Index) (keys page : ℕ) (bytes order slots : List ℕ) (number : ℕ) (after : List ℕ) : Type 0 where
   pub number-is : number ≡ feedPageNo index keys page (length bytes) order slots
   pub slots-are : after ≡ cond (eqb (pageEarly index keys (length order) (length slots)) 0) (over (pageSlots (index .width) (feedM index) page bytes (take (3 * keys) slots) (take (3 * keys) order)) slots) slots
+
+-- ---- asking
+
+-- "14 there taking in compact super counts"
+abbrev pub superNo : Kind → ℕ → ℕ → ℕ → ℕ
+superNo Assigned m supers next = next
+superNo Compact m supers next = refuse 14 (ltb supers (superCount m)) next
+
+unfoldable pub askRoom : Index → ℕ → ℕ → ℕ → ℕ
+askRoom index keys slots supers =
+    refuse 13 (ltb (2 ^ 30) keys)
+    (refuse 14 (ltb slots (3 * keys))
+    (superNo (index .kind) (index .m) supers
+    0))
+
+-- "the start's checks"
+abbrev pub askEarly : Index → ℕ → ℕ → ℕ → ℕ → ℕ
+askEarly index keys occ supers slots = feedNo index keys occ (askRoom index keys slots supers)
+
+-- "20": "a feed is asked for a position not in its key list", by the keys that it was started with and by those that are lent
+abbrev pub positionNo : ℕ → ℕ → ℕ → ℕ → ℕ
+positionNo keys lent position next = cond (ltb position keys) (cond (ltb position lent) next 20) 20
+
+-- the key's three words, where pages are listed
+abbrev pub waitNo : Index → ℕ → List ℕ → ℕ → ℕ
+waitNo index keys slots position = cond (listsPages index keys) (wordsOf slots position .no) 0
+
+-- "Asking a feed: 20, the start's checks, .. 18"
+unfoldable pub askedNo : Index → ℕ → ℕ → ℕ → ℕ → ℕ → List ℕ → ℕ
+askedNo index keys lent position occ supers slots =
+    positionNo keys lent position
+    (cond (eqb (askEarly index keys occ supers (length slots)) 0)
+    (waitNo index keys slots position)
+    (askEarly index keys occ supers (length slots)))
+
+-- lookup's own answer from a key's words, once they are there
+abbrev pub finishWords : Index → ℕ → Words → List ℕ → List ℕ → Answer
+finishWords index key words occ supers =
+    cond (eqb (words .no) 0) (finishOf index key (words .a) (words .b) (words .c) occ supers) (record { no = words .no; answer = 0 })
+
+-- where no pages are listed the answer is 0
+abbrev pub askedFrom : Index → ℕ → ℕ → Words → List ℕ → List ℕ → ℕ
+askedFrom index keys key words occ supers = cond (listsPages index keys) (finishedOf index key (words .a) (words .b) (words .c) occ supers) 0
+
+unfoldable pub askedOf : Index → ℕ → List ℕ → ℕ → List ℕ → List ℕ → List ℕ → Answer
+askedOf index keys lent position occ supers slots =
+    answered (askedNo index keys (length lent) position (length occ) (length supers) slots)
+    (askedFrom index keys (getD lent position 0) (wordsOf slots position) occ supers)

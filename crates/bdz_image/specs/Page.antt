@@ -13,9 +13,12 @@ use Rattle.bdz_image.specs.Sweep.{vertexIn, slotIn, placeOf, sweepOf}
 unfoldable pub missingIn : ℕ → ℕ → ℕ → ℕ → ℕ
 missingIn w p v s = cond (eqb p (firstPage w v)) (s / 2 ^ 32 % 2 ^ cutOf w v) (cond (eqb p (firstPage w v + 1)) (s / 2 ^ 32 / 2 ^ cutOf w v) 0)
 
--- how many bytes page p of a table of m words has
+-- "Pages are 4,096 bytes of the packed table; the last has what is left": how many bytes page p of so many has
+abbrev pub pageLength : ℕ → ℕ → ℕ
+pageLength bytes p = min 4096 (bytes - p * 4096)
+
 abbrev pub needOf : ℕ → ℕ → ℕ → ℕ
-needOf w m p = min 4096 (tableBytes w m - p * 4096)
+needOf w m p = pageLength (tableBytes w m) p
 
 abbrev pub fromAt : ℕ → ℕ → List ℕ → ℕ
 fromAt w p order = placeOf (length order) order (p * 32768 / w) 0 (length order)

@@ -3,6 +3,8 @@ ghost use mathlib.Core.Path.{_≡_};
 ghost use Prim.Native.Nat.{_+_, _*_, _/_, _%_, _^_, _<_};
 ghost use lib.ListN.{length};
 ghost use Rattle.bdz_image.specs.Ask.{wordsOf};
+use bdz_base::refusal::ACCEPTED;
+use bdz_base::refusal::WAITING;
 
 pub struct Words {
     pub no: u32,
@@ -33,14 +35,14 @@ pub(crate) fn ask(slots: &[u64], i: usize) -> Words
     let c = slots[3 * i + 2];
     if missing(a) + missing(b) + missing(c) != 0 {
         return Words {
-            no: 18,
+            no: WAITING,
             a: 0,
             b: 0,
             c: 0,
         };
     }
     Words {
-        no: 0,
+        no: ACCEPTED,
         a: low(a),
         b: low(b),
         c: low(c),

@@ -1,19 +1,25 @@
 // The page feed's public calls.
 ghost use mathlib.Core.Path.{_≡_};
 ghost use lib.ListN.{length};
-ghost use Rattle.bdz_image.specs.Feeding.{feedM, listsNone, listsPages, occupancyNo, feedNo, startRoom, pageEarly, feedOf, Opened, PageFed};
+ghost use Rattle.bdz_image.specs.Feeding.{feedM, listsNone, listsPages, occupancyNo, feedNo, startRoom, pageEarly, feedOf, Opened, PageFed, superNo, askRoom, finishWords, askedOf};
+use super::ask::Words;
+use super::ask::ask;
 use super::page::feed;
 use super::start::start;
 use bdz_base::refusal::ACCEPTED;
 use bdz_base::refusal::G_BITS;
 use bdz_base::refusal::NO_ROOM;
+use bdz_base::refusal::NO_SUCH_KEY;
 use bdz_base::refusal::OCC_TRUNCATED;
 use bdz_base::refusal::PAGE_NOT_LISTED;
 use bdz_base::refusal::TOO_LARGE;
 use bdz_base::refusal::ZERO_MODULUS;
 use bdz_base::size::occ_packed_bytes;
+use bdz_base::size::super_count;
 use bdz_base::verts::Kind;
+use bdz_table::index::Answer;
 use bdz_table::index::Index;
+use bdz_table::lookup::finish_index;
 
 // A refusal number, or 0 and how many keys the feed has and how many pages it lists.
 pub struct Feed {
@@ -229,4 +235,89 @@ pub fn feed_page(
         &order[..need],
         &mut slots[..need],
     )
+}
+
+// 14 where a compact index lacks super counts.
+fn super_no(kind: Kind, m: u32, supers: usize) -> u32
+    ensures { λ r. ⌜ r ≡ superNo kind m supers 0 ⌝ }
+{
+    match kind {
+        Kind::Assigned => ACCEPTED,
+        Kind::Compact => {
+            if (supers as u64) < super_count(m) {
+                return NO_ROOM;
+            }
+            ACCEPTED
+        }
+    }
+}
+
+// 13 or 14 by the lengths of what is lent at asking, or 0.
+fn ask_room(index: Index, keys: u64, slots: usize, supers: usize) -> u32
+    ensures { λ r. ⌜ r ≡ askRoom index keys slots supers ⌝ }
+{
+    let kind = index.kind;
+    if 1073741824 < keys {
+        return TOO_LARGE;
+    }
+    if (slots as u64) < 3 * keys {
+        return NO_ROOM;
+    }
+    super_no(kind, index.m, supers)
+}
+
+// Lookup's own answer from a key's words, once they are there.
+fn finish_words(index: Index, key: u64, words: Words, occ: &[u8], supers: &[u32]) -> Answer
+    ensures { λ r. ⌜ r ≡ finishWords index key words (now (occ .entry)) (now (supers .entry)) ⌝ }
+{
+    if words.no != ACCEPTED {
+        return Answer {
+            no: words.no,
+            answer: 0,
+        };
+    }
+    finish_index(index, key, words.a, words.b, words.c, occ, supers)
+}
+
+// The answer for the key at a position of a feed of so many keys, which are lent again. 20, 10, 11, 12, 13, 14, 18.
+pub fn feed_ask(
+    index: Index,
+    keys: u64,
+    lent: &[u64],
+    position: u64,
+    occ: &[u8],
+    supers: &[u32],
+    slots: &[u64],
+) -> Answer
+    ensures { λ r. ⌜ r ≡ askedOf index keys (now (lent .entry)) position (now (occ .entry)) (now (supers .entry)) (now (slots .entry)) ⌝ }
+{
+    if keys <= position {
+        return Answer {
+            no: NO_SUCH_KEY,
+            answer: 0,
+        };
+    }
+    if lent.len() as u64 <= position {
+        return Answer {
+            no: NO_SUCH_KEY,
+            answer: 0,
+        };
+    }
+    let no = feed_no(
+        index,
+        keys,
+        occ.len(),
+        ask_room(index, keys, slots.len(), supers.len()),
+    );
+    if no != ACCEPTED {
+        return Answer { no, answer: 0 };
+    }
+    if lists_pages(index, keys) {
+        let at = position as usize;
+        return finish_words(index, lent[at], ask(slots, at), occ, supers);
+    }
+    Answer {
+        no: ACCEPTED,
+        answer: 0,
+    }
 }

@@ -2,11 +2,16 @@
 ghost use mathlib.Core.Path.{_≡_};
 ghost use Prim.Native.Nat.{_+_, _-_, _*_, _/_, _%_, _^_, _≤_, _<_};
 ghost use lib.ListN.{length, getD};
-ghost use Rattle.bdz_image.specs.Page.{missingIn, needOf, entryNo, pageNo, pageSlots};
+ghost use Rattle.bdz_image.specs.Page.{missingIn, pageLength, entryNo, pageNo, pageSlots};
 use super::bits::low_bits;
 use super::slot::cut_of;
 use super::sweep::place;
 use super::sweep::sweep;
+use bdz_base::refusal::ACCEPTED;
+use bdz_base::refusal::PAGE_GIVEN;
+use bdz_base::refusal::PAGE_LENGTH;
+use bdz_base::refusal::PAGE_NOT_LISTED;
+use bdz_base::size::packed_g_bytes;
 
 // The bits of the page that a slot of the word at v still misses.
 fn missing_in(page: u32, v: u32, width: u32, slot: u64) -> u64
@@ -24,18 +29,16 @@ fn missing_in(page: u32, v: u32, width: u32, slot: u64) -> u64
     0
 }
 
-// How many bytes the page has.
-fn page_need(page: u32, m: u32, width: u32) -> u64
-    requires { ⌜ width ≤ 32 ⌝ }
-    ensures { λ r. ⌜ r ≡ needOf width m page ⌝ }
+// How many bytes a page of a table of n_bytes bytes has.
+pub fn g_page_need(n_bytes: u64, page: u32) -> u64
+    ensures { λ r. ⌜ r ≡ pageLength «n_bytes» page ⌝ }
 {
-    let room = (m as u64 * width as u64 + 7) / 8;
     let base = page as u64 * 4096;
-    if room <= base {
+    if n_bytes <= base {
         return 0;
     }
-    if room - base < 4096 {
-        room - base
+    if n_bytes - base < 4096 {
+        n_bytes - base
     } else {
         4096
     }
@@ -57,16 +60,16 @@ fn entry_no(page: u32, len: usize, m: u32, width: u32, slots: &[u64], e: u64) ->
     ensures { λ r. ⌜ r ≡ entryNo width m page len (now (slots .entry)) e ⌝ }
 {
     if (e >> 32) * width as u64 >= (page as u64 + 1) * 32768 {
-        return 15;
+        return PAGE_NOT_LISTED;
     }
     let slot = slot_at(slots, (e & 0xffff_ffff) as usize);
     if missing_in(page, (e >> 32) as u32, width, slot) == 0 {
-        return 16;
+        return PAGE_GIVEN;
     }
-    if len as u64 != page_need(page, m, width) {
-        return 17;
+    if len as u64 != g_page_need(packed_g_bytes(m, width), page) {
+        return PAGE_LENGTH;
     }
-    0
+    ACCEPTED
 }
 
 // One page is fed.
@@ -83,12 +86,12 @@ pub(crate) fn feed(
 {
     let lo = place(order, page as u64 * 32768 / width as u64);
     if lo >= order.len() {
-        return 15;
+        return PAGE_NOT_LISTED;
     }
     let no = entry_no(page, bytes.len(), m, width, slots, order[lo]);
-    if no != 0 {
+    if no != ACCEPTED {
         return no;
     }
     sweep(page, bytes, width, order, lo, slots);
-    0
+    ACCEPTED
 }

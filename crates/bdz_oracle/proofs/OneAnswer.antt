@@ -15,6 +15,10 @@ use Rattle.bdz_oracle.proofs.hashing.bdz_super_count.Reads as bdz-super
 use Rattle.bdz_oracle.proofs.packing.bdz_extract_g_window.Reads as bdz-extract-g-window
 use Rattle.bdz_oracle.proofs.packing.bdz_unpack_g_at.Reads as bdz-unpack-g-at
 use Rattle.bdz_oracle.proofs.hashing.bdz_hash_verts.Reads as bdz-hash-verts
+use Rattle.bdz_oracle.proofs.feeding.bdz_feed_ask.Reads as bdz-feed-ask
+use Rattle.bdz_oracle.proofs.feeding.bdz_feed_page.Reads as bdz-feed-page
+use Rattle.bdz_oracle.proofs.feeding.bdz_feed_start.Reads as bdz-feed-start
+use Rattle.bdz_oracle.proofs.feeding.bdz_g_page_need.Reads as bdz-g-page-need
 use Rattle.bdz_oracle.proofs.imaging.bdz_audit.Reads as bdz-audit
 use Rattle.bdz_oracle.proofs.imaging.bdz_image_len.Reads as bdz-image-len
 use Rattle.bdz_oracle.proofs.imaging.bdz_open_compact.Reads as bdz-open-compact
@@ -114,6 +118,19 @@ one-bdz-open-compact κs a x y s t p q = (p .number-is ∙ sym (q .number-is), p
 
 pub one-bdz-audit : (κs : _) (a : _) → OneOutcome (λ s. s .1 .1 .1 .0 .now) (bdz-audit.Post κs a)
 one-bdz-audit κs a x y s t p q = (p .number-is ∙ sym (q .number-is), p .answer-is ∙ sym (q .answer-is))
+
+pub one-bdz-g-page-need : (κs : _) (a : _) → OneResult (bdz-g-page-need.Post κs a)
+one-bdz-g-page-need κs a x y s t p q = p ∙ sym q
+
+pub one-bdz-feed-start : (κs : _) (a : _) → OneOutcome (λ s. (s .1 .1 .1 .1 .1 .1 .1 .1 .0 .now ∷ s .1 .1 .1 .1 .1 .1 .1 .1 .1 .0 .now ∷ s .1 .1 .1 .1 .1 .1 .1 .1 .1 .1 .0 .now ∷ s .1 .1 .1 .1 .1 .1 .1 .1 .1 .1 .1 .0 .now ∷ s .1 .1 .1 .1 .1 .1 .1 .1 .1 .1 .1 .1 .0 .now ∷ [])) (bdz-feed-start.Post κs a)
+one-bdz-feed-start κs a x y s t p q =
+    (p .number-is ∙ sym (q .number-is), rw (p .key-room-is, p .order-is, p .slots-are, p .pages-are, p .told-is, q .key-room-is, q .order-is, q .slots-are, q .pages-are, q .told-is))
+
+pub one-bdz-feed-page : (κs : _) (a : _) → OneOutcome (λ s. s .1 .1 .1 .1 .1 .1 .1 .1 .1 .1 .0 .now) (bdz-feed-page.Post κs a)
+one-bdz-feed-page κs a x y s t p q = (p .number-is ∙ sym (q .number-is), p .slots-are ∙ sym (q .slots-are))
+
+pub one-bdz-feed-ask : (κs : _) (a : _) → OneOutcome (λ s. s .1 .1 .1 .1 .1 .1 .1 .1 .1 .1 .1 .1 .0 .now) (bdz-feed-ask.Post κs a)
+one-bdz-feed-ask κs a x y s t p q = (p .number-is ∙ sym (q .number-is), p .answer-is ∙ sym (q .answer-is))
 
 pub one-bdz-build-assigned : (κs : _) (a : _) → OneOutcome {B = AssignedLists} (λ s. (s .1 .1 .1 .0 .now, s .1 .1 .1 .1 .0 .now, s .1 .1 .1 .1 .1 .0 .now, s .1 .1 .1 .1 .1 .1 .0 .now, s .1 .1 .1 .1 .1 .1 .1 .0 .now, s .1 .1 .1 .1 .1 .1 .1 .1 .0 .now, s .1 .1 .1 .1 .1 .1 .1 .1 .1 .0 .now, s .1 .1 .1 .1 .1 .1 .1 .1 .1 .1 .0 .now, s .1 .1 .1 .1 .1 .1 .1 .1 .1 .1 .1 .0 .now, s .1 .1 .1 .1 .1 .1 .1 .1 .1 .1 .1 .1 .0 .now, s .1 .1 .1 .1 .1 .1 .1 .1 .1 .1 .1 .1 .1 .0 .now)) (bdz-build-assigned.Post κs a)
 one-bdz-build-assigned κs a x y s t p q =

@@ -1,5 +1,5 @@
--- Keys and values read from their bytes, the words of an answer, and the returns of the exported builds and lookup. Assumes nothing.
-use mathlib.Core.Path.{_≡_, refl}
+-- Keys and values read from their bytes, the words of an answer, and the returns of the exported builds, lookup and start of a feed. Assumes nothing.
+use mathlib.Core.Path.{_≡_, refl, ap, _∙_}
 use mathlib.Core.Bool.{true, false}
 use mathlib.Core.List.{List, [], _∷_}
 use Prim.Native.Nat.{ℕ, _+_, _-_, _*_, _≤_, min}
@@ -15,8 +15,11 @@ use Rattle.bdz_table.specs.Build.{BuiltAssigned, BuiltCompact}
 use Rattle.bdz_table.specs.Lookup.{LookedUp}
 use Rattle.bdz_table.specs.declared.index.Built.{Built}
 use Rattle.bdz_table.specs.declared.index.Index.{Index}
+use Rattle.bdz_image.specs.Feeding.{Opened}
+use Rattle.bdz_image.specs.declared.feed.Feed.{Feed}
 use Rattle.bdz_oracle.specs.Keys.{keyCount, keyAt}
 use Rattle.bdz_oracle.specs.Building.{valueAt, valueCount, keysIn, valuesIn, fieldsOf, lacksAssigned, lacksCompact, ToldAssigned, ToldCompact}
+use Rattle.bdz_oracle.specs.Feeding.{lacksStart, ToldStart}
 use Rattle.bdz_oracle.specs.Looking.{lacksKeys, lookNo, ToldLookup}
 
 -- key i is read from its own eight bytes
@@ -42,7 +45,12 @@ five (x ∷ y ∷ z ∷ []) h = absurd (omega arith)
 five (x ∷ y ∷ z ∷ u ∷ []) h = absurd (omega arith)
 five (x ∷ y ∷ z ∷ u ∷ v ∷ old) h = refl
 
--- the two of an audit
+-- the one of an ask
+pub one : (old : List ℕ) {a : ℕ} → 1 ≤ length old → set old 0 a ≡ over (a ∷ []) old
+one [] h = absurd (omega arith)
+one (x ∷ old) h = refl
+
+-- the two of an audit and of a start
 pub two : (old : List ℕ) {a b : ℕ} → 2 ≤ length old → set (set old 0 a) 1 b ≡ over (a ∷ b ∷ []) old
 two [] h = absurd (omega arith)
 two (x ∷ []) h = absurd (omega arith)
@@ -93,3 +101,27 @@ some-lookup index bytes table occ supers keyRoom out h k l =
     let ks = read-part (keyAt bytes) (keyCount bytes) keyRoom k in
     let looked = rw ks at l in
     record { number-is = rw h (looked .number-is); key-room-is = rw h k; out-is = rw h (looked .after-is) }
+
+-- ---- feeds
+
+-- the start that touches nothing
+pub no-start : (index : Index) (bytes : List ℕ) (occ : ℕ) (keyRoom order slots pages told : List ℕ) → lacksStart bytes keyRoom told ≡ true → ToldStart index bytes occ keyRoom order slots pages told 14 keyRoom order slots pages told
+no-start index bytes occ keyRoom order slots pages told h =
+    record { number-is = rw h; key-room-is = rw h; order-is = rw h; slots-are = rw h; pages-are = rw h; told-is = rw h }
+
+-- and the one that is told
+pub some-start : (index : Index) (bytes : List ℕ) (occ : ℕ) (keyRoom order slots pages told : List ℕ) {keyRoom′ order′ slots′ pages′ told′ : List ℕ} {feed : Feed} → lacksStart bytes keyRoom told ≡ false → keyRoom′ ≡ over (keysIn bytes) keyRoom
+    → Opened index (take (keyCount bytes) keyRoom′) occ order slots pages feed order′ slots′ pages′ → told′ ≡ over (feed .keys ∷ feed .pages ∷ []) told
+    → ToldStart index bytes occ keyRoom order slots pages told (feed .no) keyRoom′ order′ slots′ pages′ told′
+some-start index bytes occ keyRoom order slots pages told h k o e =
+    let ks = read-part (keyAt bytes) (keyCount bytes) keyRoom k in
+    let opened = rw ks at o in
+    let is = opened .feed-is in
+    record {
+      number-is = rw h (ap (λ (x : Feed). x .no) is);
+      key-room-is = rw h k;
+      order-is = rw h (opened .order-is);
+      slots-are = rw h (opened .slots-are);
+      pages-are = rw h (opened .pages-are);
+      told-is = rw h (e ∙ ap (λ (x : Feed). over (x .keys ∷ x .pages ∷ []) told) is);
+    }

@@ -1,4 +1,5 @@
 pub mod Building
+pub mod Feeding
 pub mod Imaging
 pub mod Keys
 pub mod Looking

@@ -20,7 +20,7 @@ use Rattle.bdz_table.specs.Assign.{sumAt, looked}
 use Rattle.bdz_table.specs.Build.{verticesFor, assignedEarly, compactEarly, buildNo, seedFor, indexFor, refusedBuild, builtFor, cutsFor, assignedTable, compactTable, compactOccupancy, lengthsOf, BuiltAssigned, BuiltCompact}
 use Rattle.bdz_table.specs.Graph.{has, onlyIf}
 use Rattle.bdz_table.specs.Keys.{graphOf}
-use Rattle.bdz_table.specs.Lookup.{roomNo, lookupNo, sumOf, assignedAnswer, pickedOf, compactAnswer, manyAnswer, fewAnswer, answerOf, answersOf, LookedUp}
+use Rattle.bdz_table.specs.Lookup.{roomNo, lookupNo, sumOf, assignedAnswer, pickedOf, compactFrom, compactAnswer, manyAnswer, fewAnswer, answerOf, answersOf, LookedUp}
 use Rattle.bdz_table.specs.Peel.{atsOf}
 use Rattle.bdz_table.specs.Rank.{onesBelow, superAt, superCounts, supersNo, SuperCounted, rankWith}
 use Rattle.bdz_table.specs.Values.{valuesNo}
@@ -125,7 +125,7 @@ module _ (keys trest orest srest : List ℕ) where
           omega (arith, ones-counted, below-strict occ (compactLooked keys e) vertices (looked-bit e l) (found .inside e l))
 
       -- it is the one that a lookup picks
-      picked : (e : ℕ) → e < length keys → pickedOf (compactTable keys ++ trest) (compactVertices keys e) ≡ compactLooked keys e
+      picked : (e : ℕ) → e < length keys → pickedOf (compactVertices keys e) (sumOf (compactTable keys ++ trest) (compactVertices keys e)) ≡ compactLooked keys e
       unfolding pickedOf looked sumOf
       picked e l =
           let vs = compactVertices keys e in
@@ -136,7 +136,7 @@ module _ (keys trest orest srest : List ℕ) where
 
       -- and the key is answered its rank
       slot-many : (e : ℕ) → e < length keys → compactSlot e ≡ onesBelow occ (compactLooked keys e)
-      unfolding indexFor compactAnswer graphOf
+      unfolding indexFor compactAnswer compactFrom graphOf
       slot-many e l =
           let v = compactLooked keys e in
           let supers = superCounts vertices occ ++ srest in
@@ -324,7 +324,7 @@ pub record Bounded (index : Index) (answer : ℕ) : Type 0 where
 -- whatever index, table, occupancy and super counts are lent
 pub bounded : (index : Index) (asked table occ supers out : List ℕ) → lookupNo index (length asked) (length table) (length occ) (length supers) (length out) ≡ 0 → 1 ≤ length asked → 2 ≤ index .n
     → (key : ℕ) → Bounded index (answerOf index table occ supers key)
-unfolding assignedAnswer compactAnswer
+unfolding assignedAnswer compactAnswer compactFrom
 bounded index asked table occ supers out e h l key =
     let some = fits index (length asked) (length table) (length occ) (length supers) (length out) (omega arith) l e .modulus in
     let by : (kind : Kind) → index .kind ≡ kind → answerOf index table occ supers key ≡ manyAnswer kind index table occ supers key =

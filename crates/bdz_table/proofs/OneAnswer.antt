@@ -18,6 +18,7 @@ use Rattle.bdz_table.proofs.build.build_assigned.Reads as build-assigne
 use Rattle.bdz_table.proofs.build.build_compact.Reads as build-compact
 use Rattle.bdz_table.proofs.index.refused.Reads as refused
 use Rattle.bdz_table.proofs.index.width_for.Reads as width-for
+use Rattle.bdz_table.proofs.lookup.finish_index.Reads as finish-index
 use Rattle.bdz_table.proofs.lookup.index_batch.Reads as index-batch
 use Rattle.bdz_table.proofs.needs.needs.Reads as needs
 use Rattle.bdz_table.proofs.rank.popcount_bits.Reads as popcount-bits
@@ -50,6 +51,9 @@ one-supers-from-occ-bytes κs a x y s t p q = (p .number-is ∙ sym (q .number-i
 
 pub one-rank-at : (κs : _) (a : _) → OneResult (rank-at.Post κs a)
 one-rank-at κs a x y s t p q = p ∙ sym q
+
+pub one-finish-index : (κs : _) (a : _) → OneResult (finish-index.Post κs a)
+one-finish-index κs a x y s t p q = p ∙ sym q
 
 pub one-index-batch : (κs : _) (a : _) → OneOutcome (λ s. s .1 .1 .1 .1 .1 .0 .now) (index-batch.Post κs a)
 one-index-batch κs a x y s t p q = (p .number-is ∙ sym (q .number-is), p .after-is ∙ sym (q .after-is))

@@ -1,9 +1,9 @@
 -- What is known once super counts or a lookup are not refused, and what the answers then are. Assumes nothing.
-use mathlib.Core.Path.{_≡_, refl}
+use mathlib.Core.Path.{_≡_, refl, ap, _∙_}
 use mathlib.Core.Logic.{⊎-elim}
 use mathlib.Core.Bool.{Bool, true, false}
 use mathlib.Core.List.{List}
-use Prim.Native.Nat.{ℕ, zero, suc, _%_, _≤_, _<_}
+use Prim.Native.Nat.{ℕ, zero, suc, _+_, _%_, _^_, _≤_, _<_}
 use native.Mathlib.Nat.{mod-lt, min-eq-left}
 use native.Mathlib.Omega.{arith}
 use lib.Dec.{eqb, ltb}
@@ -17,8 +17,9 @@ use Rattle.bdz_base.specs.declared.verts.Kind.{Kind}
 use Rattle.bdz_base.specs.declared.verts.Kind.the-variants.{Assigned, Compact}
 use Rattle.bdz_base.specs.declared.verts.Verts.{Verts}
 use Rattle.bdz_base.proofs.VertexLaws.{vertices-below}
+use Rattle.bdz_table.specs.Assign.{sumAt}
 use Rattle.bdz_table.specs.Keys.{listed}
-use Rattle.bdz_table.specs.Lookup.{roomNo, lookupNo, sumOf, pickedOf, assignedAnswer, compactAnswer, manyAnswer, fewAnswer, answerOf, answersOf}
+use Rattle.bdz_table.specs.Lookup.{roomNo, lookupNo, sumOf, pickedOf, assignedAnswer, compactAnswer, manyAnswer, fewAnswer, answerOf, answersOf, manyFrom, finishedOf}
 use Rattle.bdz_table.specs.Rank.{supersNo, rankWith, rankedOf}
 use Rattle.bdz_table.specs.declared.index.Index.{Index}
 use Rattle.bdz_table.proofs.Begun.{refuse-none}
@@ -47,9 +48,9 @@ words-there kind key seed m n h k =
     record { a-below = omega (arith, b .a-below); b-below = omega (arith, b .b-below); c-below = omega (arith, b .c-below) }
 
 -- the vertex that a sum picks is one of the key's
-pub picked-below : (table : List ℕ) {m : ℕ} {v : Verts} → Below m v → pickedOf table (listed v) < m
+pub picked-below : (sum : ℕ) {m : ℕ} {v : Verts} → Below m v → pickedOf (listed v) sum < m
 unfolding pickedOf
-picked-below table {m} {v} b = go (sumOf table (listed v) % 3) (mod-lt (sumOf table (listed v)) (omega arith))
+picked-below sum {m} {v} b = go (sum % 3) (mod-lt sum (omega arith))
   where
     go : (i : ℕ) → i < 3 → getD (listed v) i 0 < m
     go zero h = b .a-below
@@ -116,7 +117,7 @@ room-compact m table occ supers e =
 -- ---- the answers
 
 module _ (index : Index) (table occ supers : List ℕ) (key : ℕ) where
-  pub few-answer : index .n < 2 → answerOf index table occ supers key ≡ fewAnswer (index .kind) (index .n) table
+  pub few-answer : index .n < 2 → answerOf index table occ supers key ≡ fewAnswer (index .kind) (index .n) (getD table 0 0)
   unfolding answerOf
   few-answer h = rw (lt-ltb (index .n) 2 h)
 
@@ -124,12 +125,32 @@ module _ (index : Index) (table occ supers : List ℕ) (key : ℕ) where
   unfolding answerOf
   many-answer h = rw (le-ltb (index .n) 2 h)
 
+  -- three words that are the table's at the key's vertices (of one key or none: the first is its first word) make the lookup's answer
+  module _ (a b c : ℕ) where
+    pub finish-few : index .n < 2 → a ≡ getD table 0 0 → finishedOf index key a b c occ supers ≡ answerOf index table occ supers key
+    unfolding finishedOf answerOf
+    finish-few h e = rw (lt-ltb (index .n) 2 h, e)
+
+    finish-sum : (v : Verts) → a ≡ getD table (v .a) 0 → b ≡ getD table (v .b) 0 → c ≡ getD table (v .c) 0 → (a + b + c) % 2 ^ 32 ≡ sumOf table (listed v)
+    unfolding sumOf sumAt
+    finish-sum v x y z = ap (λ (s : ℕ). s % 2 ^ 32) (omega (arith, x, y, z))
+
+    finish-kind : (kind : Kind) → (a + b + c) % 2 ^ 32 ≡ sumOf table (listed (vertsOf kind key (index .seed) (index .m))) → manyFrom kind index occ supers key ((a + b + c) % 2 ^ 32) ≡ manyAnswer kind index table occ supers key
+    unfolding assignedAnswer compactAnswer
+    finish-kind Assigned e = rw e
+    finish-kind Compact e = rw e
+
+    pub finish-many : 2 ≤ index .n → {v : Verts} → v ≡ vertsOf (index .kind) key (index .seed) (index .m) → a ≡ getD table (v .a) 0 → b ≡ getD table (v .b) 0 → c ≡ getD table (v .c) 0 → finishedOf index key a b c occ supers ≡ answerOf index table occ supers key
+    unfolding finishedOf answerOf
+    finish-many h {v} e x y z =
+        rw (le-ltb (index .n) 2 h) (finish-kind (index .kind) (finish-sum v x y z ∙ ap (λ (u : Verts). sumOf table (listed u)) e))
+
 module _ (index : Index) (table occ supers keys : List ℕ) where
   pub answers-none : (old : List ℕ) → length keys ≡ 0 → old ≡ over (answersOf index table occ supers keys) old
   unfolding tab
   answers-none old e = rw e
 
-  pub answers-few : index .n < 2 → answersOf index table occ supers keys ≡ tab (λ i. fewAnswer (index .kind) (index .n) table) (length keys)
+  pub answers-few : index .n < 2 → answersOf index table occ supers keys ≡ tab (λ i. fewAnswer (index .kind) (index .n) (getD table 0 0)) (length keys)
   unfolding answerOf
   answers-few h = rw (lt-ltb (index .n) 2 h)
 

@@ -6,7 +6,8 @@ ghost use Rattle.bdz_base.specs.Buffer.{tab, over};
 ghost use Rattle.bdz_base.specs.Sizes.{occupancyBytes, superCount};
 ghost use Rattle.bdz_base.specs.Verts.{Below};
 ghost use Rattle.bdz_table.specs.Keys.{listed};
-ghost use Rattle.bdz_table.specs.Lookup.{roomNo, lookupNo, sumOf, assignedAnswer, compactAnswer, oneAnswer, fewAnswer, answersOf, LookedUp};
+ghost use Rattle.bdz_table.specs.Lookup.{roomNo, lookupNo, sumOf, assignedAnswer, compactFrom, compactAnswer, oneAnswer, fewAnswer, answersOf, LookedUp, manyFrom, finishNo, finishOf};
+use super::index::Answer;
 use super::index::Index;
 use super::rank::fewer;
 use super::view::rank1;
@@ -102,6 +103,17 @@ fn assigned_answer(key: u64, seed: u64, m: u32, modulus: u32, table: &[u32]) -> 
     sum_words(table, v) % modulus
 }
 
+// The compact answer from the sum of a key's words.
+fn compact_finish(sum: u32, v: Verts, m: u32, n: u32, occ: &[u8], supers: &[u32]) -> u32
+    requires { ⌜ (0 < n) × Below m v × (occupancyBytes m ≤ length (now occ)) × (superCount m ≤ length (now supers)) ⌝ }
+    ensures { λ r. ⌜ r ≡ compactFrom n (now (occ .entry)) (now (supers .entry)) (listed v) sum ⌝ }
+{
+    let at = vertex_at(v, sum % 3);
+    let ranked = rank1(occ, supers, m, at);
+    let last = n - 1;
+    fewer(ranked.answer, last)
+}
+
 fn compact_answer(
     key: u64,
     seed: u64,
@@ -115,10 +127,7 @@ fn compact_answer(
     ensures { λ r. ⌜ r ≡ compactAnswer seed m n (now (table .entry)) (now (occ .entry)) (now (supers .entry)) key ⌝ }
 {
     let v = hash_verts(key, seed, m, Kind::Compact);
-    let at = vertex_at(v, sum_words(table, v) % 3);
-    let ranked = rank1(occ, supers, m, at);
-    let last = n - 1;
-    fewer(ranked.answer, last)
+    compact_finish(sum_words(table, v), v, m, n, occ, supers)
 }
 
 // The assigned answer for each key.
@@ -166,29 +175,34 @@ fn same_all(keys: usize, answer: u32, out: &mut [u32])
     }
 }
 
+// The word that an index of one key stores.
+fn first_word(table: &[u32]) -> u32
+    ensures { λ r. ⌜ r ≡ getD (now (table .entry)) 0 0 ⌝ }
+{
+    if table.len() == 0 {
+        return 0;
+    }
+    table[0]
+}
+
 // The answer of an index of one key.
-fn one_key_index(kind: Kind, table: &[u32]) -> u32
-    ensures { λ r. ⌜ r ≡ oneAnswer kind (now (table .entry)) ⌝ }
+fn one_key_index(kind: Kind, word: u32) -> u32
+    ensures { λ r. ⌜ r ≡ oneAnswer kind word ⌝ }
 {
     match kind {
-        Kind::Assigned => {
-            if table.len() == 0 {
-                return 0;
-            }
-            table[0]
-        }
+        Kind::Assigned => word,
         Kind::Compact => 0,
     }
 }
 
 // The answer of an index of no key or one.
-fn few_answer(kind: Kind, n: u32, table: &[u32]) -> u32
-    ensures { λ r. ⌜ r ≡ fewAnswer kind n (now (table .entry)) ⌝ }
+fn few_answer(kind: Kind, n: u32, word: u32) -> u32
+    ensures { λ r. ⌜ r ≡ fewAnswer kind n word ⌝ }
 {
     if n == 0 {
         return 0;
     }
-    one_key_index(kind, table)
+    one_key_index(kind, word)
 }
 
 // The answers of a lookup that is not refused.
@@ -208,7 +222,11 @@ fn answer_all(
     }
     let kind = index.kind;
     if index.n < 2 {
-        same_all(keys.len(), few_answer(kind, index.n, table), out);
+        same_all(
+            keys.len(),
+            few_answer(kind, index.n, first_word(table)),
+            out,
+        );
         return;
     }
     match kind {
@@ -241,4 +259,49 @@ pub fn index_batch(
     }
     answer_all(index, keys, table, occ, supers, out);
     ACCEPTED
+}
+
+// The answer of an index of two keys or more from the sum of a key's words.
+fn finish_many(index: Index, key: u64, sum: u32, occ: &[u8], supers: &[u32]) -> u32
+    requires { ⌜ (2 ≤ index .n) × (finishNo index (length (now occ)) (length (now supers)) ≡ 0) ⌝ }
+    ensures { λ r. ⌜ r ≡ manyFrom (index .kind) index (now (occ .entry)) (now (supers .entry)) key sum ⌝ }
+{
+    let kind = index.kind;
+    match kind {
+        Kind::Assigned => sum % index.modulus,
+        Kind::Compact => {
+            let v = hash_verts(key, index.seed, index.m, Kind::Compact);
+            compact_finish(sum, v, index.m, index.n, occ, supers)
+        }
+    }
+}
+
+// A key's answer from its three words, wherever they were read. 11, 12, 14.
+pub fn finish_index(
+    index: Index,
+    key: u64,
+    a: u32,
+    b: u32,
+    c: u32,
+    occ: &[u8],
+    supers: &[u32],
+) -> Answer
+    ensures { λ r. ⌜ r ≡ finishOf index key a b c (now (occ .entry)) (now (supers .entry)) ⌝ }
+{
+    let kind = index.kind;
+    let no = lookup_no(index, 1, index.m as usize, occ.len(), supers.len(), 1);
+    if no != ACCEPTED {
+        return Answer { no, answer: 0 };
+    }
+    if index.n < 2 {
+        return Answer {
+            no: ACCEPTED,
+            answer: few_answer(kind, index.n, a),
+        };
+    }
+    let sum = std::num::wrapping_add_u32(std::num::wrapping_add_u32(a, b), c);
+    Answer {
+        no: ACCEPTED,
+        answer: finish_many(index, key, sum, occ, supers),
+    }
 }

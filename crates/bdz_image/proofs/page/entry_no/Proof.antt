@@ -41,19 +41,22 @@ returns-2 c =
     let mm : c .before .missing-in .result ≡ missingIn (a .width) (a .page) (vertexIn (a .e)) (getD (a .slots .now) (slotIn (a .e)) 0) = cc (and-mask (a .e) 32) in
     given (a .width) (a .m) (a .page) (a .len) (a .slots .now) (a .e) (omega arith) (omega arith)
 
-page-need-requires : tie.Need-page-need-requires
-page-need-requires c κs = search needs
+packed-g-bytes-requires : tie.Need-packed-g-bytes-requires
+packed-g-bytes-requires c κs = search needs
+
+g-page-need-requires : tie.Need-g-page-need-requires
+g-page-need-requires c κs = search needs
 
 returns-3 : tie.Need-returns-3
 returns-3 c =
-    let a = c .before .before .before .before .before .before .before .args in
-    let mm : c .before .before .before .missing-in .result ≡ missingIn (a .width) (a .page) (vertexIn (a .e)) (getD (a .slots .now) (slotIn (a .e)) 0) = cc (and-mask (a .e) 32) in
+    let a = c .before .before .before .before .before .before .before .before .args in
+    let mm : c .before .before .before .before .missing-in .result ≡ missingIn (a .width) (a .page) (vertexIn (a .e)) (getD (a .slots .now) (slotIn (a .e)) 0) = cc (and-mask (a .e) 32) in
     wrong-length (a .width) (a .m) (a .page) (a .len) (a .slots .now) (a .e) (omega arith) (omega arith) (omega arith)
 
 returns-4 : tie.Need-returns-4
 returns-4 c =
-    let a = c .before .before .before .before .before .before .before .args in
-    let mm : c .before .before .before .missing-in .result ≡ missingIn (a .width) (a .page) (vertexIn (a .e)) (getD (a .slots .now) (slotIn (a .e)) 0) = cc (and-mask (a .e) 32) in
+    let a = c .before .before .before .before .before .before .before .before .args in
+    let mm : c .before .before .before .before .missing-in .result ≡ missingIn (a .width) (a .page) (vertexIn (a .e)) (getD (a .slots .now) (slotIn (a .e)) 0) = cc (and-mask (a .e) 32) in
     taken (a .width) (a .m) (a .page) (a .len) (a .slots .now) (a .e) (omega arith) (omega arith) (omega arith)
 
 pub entry-no-spec : {M : Type 1} → statement M
@@ -68,6 +71,7 @@ entry-no-spec =
     cast-missing-in
     missing-in-requires
     returns-2
-    page-need-requires
+    packed-g-bytes-requires
+    g-page-need-requires
     returns-3
     returns-4)

@@ -12,14 +12,17 @@ returns c =
     let a = c .before .before .before .before .before .before .args in
     answers-none (a .index) (a .table .now) (a .occ .now) (a .supers .now) (a .keys .now) (a .out .now) (c .if1 .taken)
 
+first-word-requires : tie.Need-first-word-requires
+first-word-requires c κs = search needs
+
 few-answer-requires : tie.Need-few-answer-requires
 few-answer-requires c κs = search needs
 
 same-all-requires : tie.Need-same-all-requires
 same-all-requires c κs =
-    let start = c .before .before .before .before .before .before .before .before .before .before in
+    let start = c .before .before .before .before .before .before .before .before .before .before .before in
     let a = start .args in
-    let some : length (a .keys .now) ≡ 0 → ⊥ = c .before .before .before .before .if1 .left in
+    let some : length (a .keys .now) ≡ 0 → ⊥ = c .before .before .before .before .before .if1 .left in
     answers-fit (a .index) (length (a .keys .now)) (length (a .table .now)) (length (a .occ .now)) (length (a .supers .now)) (length (a .out .now)) some (start .pre)
 
 same-length : tie.Need-same-length
@@ -27,8 +30,9 @@ same-length c = search needs
 
 returns-2 : tie.Need-returns-2
 returns-2 c =
-    let a = c .before .before .before .before .before .before .before .before .before .before .before .before .before .args in
-    rw (answers-few (a .index) (a .table .now) (a .occ .now) (a .supers .now) (a .keys .now) (c .before .before .before .before .before .if2 .taken), ← c .before .before .before .before .few-answer .ensures) (c .before .before .same-all .ensures)
+    let a = c .before .before .before .before .before .before .before .before .before .before .before .before .before .before .args in
+    rw (answers-few (a .index) (a .table .now) (a .occ .now) (a .supers .now) (a .keys .now) (c .before .before .before .before .before .before .if2 .taken), ← c .before .before .before .before .before .first-word .ensures, ← c .before .before .before .before .few-answer .ensures)
+    (c .before .before .same-all .ensures)
 
 enum-told : tie.Need-enum-told
 enum-told c = search needs
@@ -75,6 +79,7 @@ answer-all-spec =
     tie.close
     (tie.spec
     returns
+    first-word-requires
     few-answer-requires
     same-all-requires
     same-length

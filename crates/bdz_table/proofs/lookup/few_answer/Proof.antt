@@ -1,7 +1,7 @@
 -- `bdz_table::lookup::few_answer` meets its contract. Assumes nothing.
 use borrow.Author.Tests.{eq-eqb, ne-eqb}
-use borrow.Author.Needs.{needs}
 use Rattle.bdz_table.specs.Lookup.{fewAnswer}
+use borrow.Author.Needs.{needs}
 use Rattle.bdz_table.proofs.lookup.few_answer.Statement.{statement}
 use Rattle.bdz_table.proofs.lookup.few_answer.Tie as tie
 
