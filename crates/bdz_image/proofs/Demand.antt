@@ -1,6 +1,6 @@
 -- DEMAND 3, the feed: from the keys' vertices to the answers. Assumes nothing.
 use Rattle.bdz_base.specs.Sizes.{tableBytes}
-use mathlib.Core.Path.{_≡_}
+use mathlib.Core.Path.{_≡_, refl}
 use mathlib.Core.Bool.{true, false}
 use mathlib.Core.List.{List, [], _∷_}
 use Prim.Native.Nat.{ℕ, _+_, _*_, _≤_, _<_}
@@ -23,6 +23,14 @@ pub runOf : ℕ → ℕ → List ℕ → List ℕ → List ℕ → List ℕ → 
 unfolding pageSlots pageOf
 runOf w m body order [] slots = slots
 runOf w m body order (p ∷ ps) slots = pageSlots w m p (pageOf body p) (runOf w m body order ps slots) order
+
+pub run-none : (w m : ℕ) (body order slots : List ℕ) → runOf w m body order [] slots ≡ slots
+unfolding runOf
+run-none w m body order slots = refl
+
+pub run-more : (w m : ℕ) (body order : List ℕ) (p : ℕ) (ps slots : List ℕ) → runOf w m body order (p ∷ ps) slots ≡ pageSlots w m p (pageOf body p) (runOf w m body order ps slots) order
+unfolding runOf
+run-more w m body order p ps slots = refl
 
 page-length : (w m : ℕ) (body : List ℕ) (p : ℕ) → length body ≡ tableBytes w m → length (pageOf body p) ≡ needOf w m p
 unfolding pageOf

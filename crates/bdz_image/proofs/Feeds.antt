@@ -53,7 +53,7 @@ length-sweep w p bytes (e ∷ es) slots =
     go true h = h
     go false h = refl
 
-length-page-slots : (w m p : ℕ) (bytes slots order : List ℕ) → length (pageSlots w m p bytes slots order) ≡ length slots
+pub length-page-slots : (w m p : ℕ) (bytes slots order : List ℕ) → length (pageSlots w m p bytes slots order) ≡ length slots
 unfolding pageSlots
 length-page-slots w m p bytes slots order = go (eqb (pageNo w m p (length bytes) slots order) 0)
   where

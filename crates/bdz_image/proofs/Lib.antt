@@ -7,7 +7,9 @@ pub mod Begins
 pub mod Buckets
 pub mod Cut
 pub mod Demand
+pub mod Demand3
 pub mod Entries
+pub mod Fed
 pub mod Feeds
 pub mod Fields
 pub mod Judged

@@ -89,7 +89,7 @@ module _ (kind : Kind) (keys : List ℕ) where
 
 -- ---- the assigned build
 
-kinds : {A : Type 0} → Assigned ≡ Compact → A
+pub kinds : {A : Type 0} → Assigned ≡ Compact → A
 kinds e = let z : _≡_ {A = ℕ} 0 1 = cc in absurd (omega arith)
 
 module _ (keys values : List ℕ) (modulus : ℕ) (lent : _) (ok : buildNo Assigned keys (assignedEarly (length keys) (length values) modulus lent) (valuesNo modulus [] values) ≡ 0) where

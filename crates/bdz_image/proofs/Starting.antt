@@ -17,7 +17,7 @@ use Rattle.bdz_table.proofs.Begun.{refuse-none}
 use Rattle.bdz_table.proofs.Fold.{clash}
 use Rattle.bdz_image.specs.Entry.{entryAt}
 use Rattle.bdz_image.specs.Feed.{slot}
-use Rattle.bdz_image.specs.Feeding.{feedM, listsNone, listsPages, occupancyNo, feedNo, startRoom, startNo, orderOf, pagesOf, feedOf, Opened}
+use Rattle.bdz_image.specs.Feeding.{feedM, listsNone, listsPages, occupancyNo, feedNo, startRoom, startNo, orderOf, pagesOf, freshSlots, feedOf, Opened}
 use Rattle.bdz_image.specs.Pages.{ownPage, onceOf, listOf, padded}
 use Rattle.bdz_image.specs.Start.{Started}
 use Rattle.bdz_image.proofs.Orders.{in-order-length, in-order-only}
@@ -122,7 +122,7 @@ module _ (index : Index) (keys : List ℕ) (occ : ℕ) (order slots pages : List
       record {
         feed-is = rw (← is, t);
         order-is = kept b (orderOf index keys) order t;
-        slots-are = kept b (replicate (3 * length keys) (slot (2 ^ index .width - 1) 0)) slots t;
+        slots-are = kept b (freshSlots index (length keys)) slots t;
         pages-are = kept b (padded (6 * length keys) (pagesOf index keys)) pages t;
       }
 
