@@ -3,12 +3,15 @@
 //! The Rust's loops stand here, in the crate that holds the module, so that they are compiled as
 //! well as the Rust's own callers are.
 
-use crate::bdz::{self, BdzMphf, CompactRank, OccBits};
+use crate::bdz::{self, BdzMphf, CompactRank, GPageScatter, OccBits};
 use crate::expressions;
-use crate::ours::{self, DONE};
+use crate::ours::{self, FeedIndex, FeedRoom, Question, DONE};
 use crate::rng::Rng;
 use crate::topics::builds::{key_bytes, table_of, Build, Outcome};
+use crate::topics::feed::subject::{rust_pages, rust_vertices};
+use crate::topics::feed::trial::Rooms;
 use crate::topics::lookup::lent;
+use crate::topics::pack::rust_body;
 use std::hint::black_box;
 use std::time::{Duration, Instant};
 
@@ -31,6 +34,11 @@ const COMPACT_LOOKUP_BUDGET: f64 = 1.0;
 /// Numbers of keys, each with its rounds.
 const WRITES: [(usize, usize); 2] = [(1_000, 300), (1_000_000, 15)];
 const WRITE_BUDGET: f64 = 1.0;
+/// Numbers of keys that are fed from one image of `ITEMS` keys, each with its rounds from a warm
+/// start and from a cold one.
+const FEEDS: [(usize, [usize; 2]); 3] =
+    [(1_000, [100, 50]), (100_000, [15, 9]), (1_000_000, [5, 5])];
+const FEED_BUDGET: f64 = 1.5;
 /// A cold start is made by a walk through so many bytes, more than the caches of most machines hold.
 const EVICTION: usize = 64 << 20;
 /// The bytes of a line of a cache: a step of the walk.
@@ -71,6 +79,15 @@ pub fn print_table() {
             .join(", ")
     );
     println!(
+        "feeds: ns per key that is fed, of an image of {ITEMS} keys, {} rounds; start, all listed \
+         pages in their order, and every key asked; ours reads the keys from bytes and works in \
+         buffers that were lent once, outside the clock; the Rust's own allocation is part of its \
+         time, its files are not; start, pages and asking: the parts of ours alone, warm",
+        FEEDS
+            .map(|(keys, [warm, cold])| format!("{keys} keys {warm} warm and {cold} cold"))
+            .join(", ")
+    );
+    println!(
         "{:<30} {:>11} {:>11} {:>6} {:>6}",
         "what", "ours ns", "Rust ns", "ratio", "budget"
     );
@@ -94,6 +111,7 @@ pub fn print_table() {
     for (keys, rounds) in WRITES {
         writing(&mut rng, keys, rounds);
     }
+    feeds(&mut rng);
 }
 
 /// A line of the table: its name, the items of a call, how often the call is timed, and the ratio
@@ -138,6 +156,24 @@ fn measure_row(row: Row, mut before: impl FnMut(), mut ours: impl FnMut(), mut r
         "{:<30} {our_each:>11.3} {rust_each:>11.3} {ratio:>6.2} {:>6.1} {verdict}",
         row.what, row.budget
     );
+}
+
+/// Runs ours alone and prints a line that has neither a counterpart nor a budget. What is done before
+/// each timed call may change what the call works on.
+fn measure_alone<T>(
+    (what, items, rounds): (&str, usize, usize),
+    on: &mut T,
+    mut before: impl FnMut(&mut T),
+    mut ours: impl FnMut(&mut T),
+) {
+    before(on);
+    ours(on);
+    let mut fastest = Duration::MAX;
+    for _ in 0..rounds {
+        before(on);
+        fastest = fastest.min(time(&mut || ours(on)));
+    }
+    println!("{what:<30} {:>11.3}", each(fastest, items));
 }
 
 /// The nanoseconds of each of so many items.
@@ -423,7 +459,7 @@ fn reading(keys: &[u64], rounds: [usize; 2]) {
     let mut out = vec![0u32; keys.len()];
     let mut eviction = vec![0u8; EVICTION];
     let empty = BdzMphf::build_compact(&[]).expect("no keys are accepted");
-    let mut read = || {
+    let mut read = |_: &mut Vec<u8>| {
         let (bytes, index) = (black_box(&bytes[..]), black_box(lent(&empty)));
         let status = ours::index_batch(bytes, index, &mut key_room, &mut out);
         assert_eq!(status, DONE);
@@ -431,13 +467,13 @@ fn reading(keys: &[u64], rounds: [usize; 2]) {
     };
     for (start, rounds) in Start::BOTH.into_iter().zip(rounds) {
         let what = format!("keys read alone, {}{}", keys.len(), start.name());
-        read();
-        let mut fastest = Duration::MAX;
-        for _ in 0..rounds {
-            start.prepare(&mut eviction);
-            fastest = fastest.min(time(&mut read));
-        }
-        println!("{what:<30} {:>11.3}", each(fastest, keys.len()));
+        let row = (&what[..], keys.len(), rounds);
+        measure_alone(
+            row,
+            &mut eviction,
+            |eviction| start.prepare(eviction),
+            &mut read,
+        );
     }
 }
 
@@ -520,4 +556,171 @@ fn rust_header(built: &BdzMphf, magic: &[u8; 4], modulus: u32, width: u32) -> [u
     header[24..28].copy_from_slice(&modulus.to_le_bytes());
     header[28..32].copy_from_slice(&width.to_le_bytes());
     header
+}
+
+/// Feeds of either kind from one image.
+fn feeds(rng: &mut Rng) {
+    let (keys, [assigned, compact]) = indexes(rng, ITEMS);
+    for (kind, built) in [("assigned", assigned), ("compact", compact)] {
+        for (count, rounds) in FEEDS {
+            feed(&built, kind, &keys[..count], rounds);
+        }
+    }
+}
+
+/// The whole feed of keys beside the Rust's, and then the parts of ours.
+fn feed(built: &BdzMphf, kind: &str, keys: &[u64], rounds: [usize; 2]) {
+    let mut eviction = vec![0u8; EVICTION];
+    let count = keys.len();
+    let mut ours = OurFeed::new(built, keys);
+    let mut rust_out = vec![0u32; count];
+    for (start, rounds) in Start::BOTH.into_iter().zip(rounds) {
+        let what = &format!("feed {kind}, {count}{}", start.name());
+        let row = Row {
+            what,
+            items: count,
+            rounds,
+            budget: FEED_BUDGET,
+        };
+        let body = ours.body.clone();
+        measure_row(
+            row,
+            || start.prepare(&mut eviction),
+            || {
+                ours.start();
+                ours.feed();
+                ours.ask();
+            },
+            || {
+                let (built, keys) = (black_box(built), black_box(keys));
+                rust_feed(built, keys, black_box(&body), &mut rust_out);
+                black_box(&mut rust_out);
+            },
+        );
+        assert!(ours.out == rust_out, "{what}: the answers differ");
+    }
+    let [rounds, _] = rounds;
+    let name = |part: &str| format!("feed {part} {kind}, {count}");
+    let row = (&name("start")[..], count, rounds);
+    measure_alone(row, &mut ours, |_| (), OurFeed::start);
+    let row = (&name("pages")[..], count, rounds);
+    measure_alone(row, &mut ours, OurFeed::start, OurFeed::feed);
+    let row = (&name("asking")[..], count, rounds);
+    measure_alone(row, &mut ours, |_| (), OurFeed::ask);
+}
+
+/// Bits of a table's word in the image of an index.
+fn width_of(built: &BdzMphf) -> u32 {
+    match built.compact {
+        Some(_) => bdz::COMPACT_G_BITS,
+        None => bdz::g_bits_for_modulus(built.modulus),
+    }
+}
+
+/// The bytes of a page.
+fn page_of(body: &[u8], page: u32) -> &[u8] {
+    let start = page as usize * bdz::G_PAGE_BYTES;
+    &body[start..body.len().min(start + bdz::G_PAGE_BYTES)]
+}
+
+/// A feed of ours, with all that is lent to it.
+struct OurFeed<'a> {
+    built: &'a BdzMphf,
+    keys: &'a [u64],
+    bytes: Vec<u8>,
+    body: Vec<u8>,
+    key_room: Vec<u64>,
+    order: Vec<u64>,
+    slots: Vec<u64>,
+    pages: Vec<u32>,
+    told: Vec<u64>,
+    out: Vec<u32>,
+}
+
+impl<'a> OurFeed<'a> {
+    fn new(built: &'a BdzMphf, keys: &'a [u64]) -> Self {
+        let rooms = Rooms::exact(keys.len());
+        Self {
+            built,
+            keys,
+            bytes: key_bytes(keys),
+            body: rust_body(table_of(built), width_of(built)),
+            key_room: vec![0; rooms.key_room],
+            order: vec![0; rooms.order],
+            slots: vec![0; rooms.slots],
+            pages: vec![0; rooms.pages],
+            told: vec![0; rooms.told],
+            out: vec![0; keys.len()],
+        }
+    }
+
+    fn index(&self) -> FeedIndex {
+        let built = black_box(self.built);
+        FeedIndex {
+            compact: u32::from(built.compact.is_some()),
+            n: built.n,
+            m: built.m,
+            seed: built.seed,
+            modulus: built.modulus,
+            width: width_of(built),
+        }
+    }
+
+    fn start(&mut self) {
+        let (index, occupancy) = (self.index(), lent(self.built).occupancy);
+        let room = FeedRoom {
+            key_room: &mut self.key_room,
+            order: &mut self.order,
+            slots: &mut self.slots,
+            pages: &mut self.pages,
+            told: &mut self.told,
+        };
+        let status = ours::feed_start(black_box(&self.bytes), index, occupancy, room);
+        assert_eq!(status, DONE);
+        black_box(&mut self.slots);
+    }
+
+    fn feed(&mut self) {
+        let (index, count) = (self.index(), self.told[1] as usize);
+        for &page in &self.pages[..count] {
+            let bytes = page_of(black_box(&self.body), page);
+            let (order, slots) = (&self.order, &mut self.slots);
+            let status = ours::feed_page(index, self.told[0], page, bytes, order, slots);
+            assert_eq!(status, DONE);
+        }
+        black_box(&mut self.slots);
+    }
+
+    fn ask(&mut self) {
+        let (index, sides) = (self.index(), lent(black_box(self.built)));
+        for (position, place) in self.out.chunks_exact_mut(1).enumerate() {
+            let question = Question {
+                keys: self.told[0],
+                lent: self.keys,
+                position: position as u64,
+                occupancy: sides.occupancy,
+                supers: sides.supers,
+                slots: &self.slots,
+            };
+            let status = ours::feed_ask(index, question, place);
+            assert_eq!(status, DONE);
+        }
+        black_box(&mut self.out);
+    }
+}
+
+/// What `index_batch_fd` does, with its pages in memory.
+#[inline(never)]
+fn rust_feed(built: &BdzMphf, keys: &[u64], body: &[u8], out: &mut [u32]) {
+    let width = width_of(built);
+    let vertices = rust_vertices(built, keys);
+    let pages = rust_pages(&vertices, width);
+    let mut scatter = GPageScatter::from_verts(width, &vertices, &pages);
+    for page in pages {
+        scatter.fill(page, page_of(body, page));
+    }
+    let each = scatter.words.iter().zip(vertices);
+    for (place, (&[a, b, c], vertices)) in out.iter_mut().zip(each) {
+        *place = built.finish_index(a, b, c, vertices);
+    }
 }

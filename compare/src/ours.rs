@@ -24,17 +24,29 @@ pub const BAD_MAGIC: u32 = 8;
 pub const BAD_VERSION: u32 = 9;
 /// The status of a call with a width that is 0 or over 32, or in BDZ3 not 2.
 pub const BAD_WIDTH: u32 = 10;
-/// The status of a lookup in an index of two keys or more whose m or modulus is 0, and of an
-/// opening of such a BDZ2.
+/// The status of a lookup in an index of two keys or more whose m or modulus is 0, of a feed of it,
+/// and of an opening of such a BDZ2.
 pub const ZERO_MODULUS: u32 = 11;
 /// The status of a call whose occupancy has fewer bits than there are vertices.
 pub const OCC_TRUNCATED: u32 = 12;
-/// The status of a build of more keys, or of a larger modulus, than `MOST`.
+/// The status of a build of more keys, or of a larger modulus, than `MOST`, and of a feed of more
+/// keys.
 pub const TOO_LARGE: u32 = 13;
 /// The status of a call whose answer has no room.
 pub const NO_ROOM: u32 = 14;
+/// The status of a page that no key of a feed waits for.
+pub const PAGE_NOT_LISTED: u32 = 15;
+/// The status of a page that a feed has been given.
+pub const PAGE_GIVEN: u32 = 16;
+/// The status of a page of more or fewer bytes than it has.
+pub const PAGE_LENGTH: u32 = 17;
+/// The status of a key that is asked for before its pages have come.
+pub const WAITING: u32 = 18;
+/// The status of a position that is not among a feed's keys.
+pub const NO_SUCH_KEY: u32 = 20;
 
-/// The largest number of keys, and the largest modulus, of a build.
+/// The largest number of keys, and the largest modulus, of a build; the largest number of keys of a
+/// feed.
 pub const MOST: u32 = 1 << 30;
 
 extern "C" {
@@ -222,6 +234,64 @@ extern "C" {
         occ_length: usize,
         answer: *mut u64,
         answer_length: usize,
+    ) -> u32;
+    fn bdz_feed_start(
+        keys: *const u8,
+        keys_length: usize,
+        compact: u32,
+        n: u32,
+        m: u32,
+        seed: u64,
+        modulus: u32,
+        width: u32,
+        occ: *const u8,
+        occ_length: usize,
+        key_room: *mut u64,
+        key_room_length: usize,
+        order: *mut u64,
+        order_length: usize,
+        slots: *mut u64,
+        slots_length: usize,
+        pages: *mut u32,
+        pages_length: usize,
+        told: *mut u64,
+        told_length: usize,
+    ) -> u32;
+    fn bdz_feed_page(
+        compact: u32,
+        n: u32,
+        m: u32,
+        seed: u64,
+        modulus: u32,
+        width: u32,
+        keys: u64,
+        page: u32,
+        bytes: *const u8,
+        bytes_length: usize,
+        order: *const u64,
+        order_length: usize,
+        slots: *mut u64,
+        slots_length: usize,
+    ) -> u32;
+    fn bdz_feed_ask(
+        compact: u32,
+        n: u32,
+        m: u32,
+        seed: u64,
+        modulus: u32,
+        width: u32,
+        keys: u64,
+        lent: *const u64,
+        lent_length: usize,
+        position: u64,
+        occ: *const u8,
+        occ_length: usize,
+        supers: *const u32,
+        supers_length: usize,
+        slots: *const u64,
+        slots_length: usize,
+        told: *mut u32,
+        told_length: usize,
     ) -> u32;
 }
 
@@ -544,6 +614,124 @@ pub fn audit(n: u32, m: u32, occ: &[u8], answer: &mut [u64]) -> u32 {
             occ.len(),
             answer.as_mut_ptr(),
             answer.len(),
+        )
+    }
+}
+
+/// The numbers of an index, as a feed of it takes them.
+#[derive(Clone, Copy, Debug)]
+pub struct FeedIndex {
+    /// 0 for the assigned kind, any other number for the compact one.
+    pub compact: u32,
+    pub n: u32,
+    pub m: u32,
+    pub seed: u64,
+    pub modulus: u32,
+    pub width: u32,
+}
+
+/// What the start of a feed is lent.
+pub struct FeedRoom<'a> {
+    pub key_room: &'a mut [u64],
+    pub order: &'a mut [u64],
+    pub slots: &'a mut [u64],
+    pub pages: &'a mut [u32],
+    /// How many keys there are, and how many pages.
+    pub told: &'a mut [u64],
+}
+
+/// What a feed is asked, and what is lent for that.
+#[derive(Clone, Copy)]
+pub struct Question<'a> {
+    /// How many keys the feed was started with.
+    pub keys: u64,
+    /// The keys again.
+    pub lent: &'a [u64],
+    pub position: u64,
+    pub occupancy: &'a [u8],
+    pub supers: &'a [u32],
+    pub slots: &'a [u64],
+}
+
+/// The keys come as bytes, and are read into their room first.
+pub fn feed_start(keys: &[u8], index: FeedIndex, occupancy: &[u8], room: FeedRoom) -> u32 {
+    unsafe {
+        bdz_feed_start(
+            keys.as_ptr(),
+            keys.len(),
+            index.compact,
+            index.n,
+            index.m,
+            index.seed,
+            index.modulus,
+            index.width,
+            occupancy.as_ptr(),
+            occupancy.len(),
+            room.key_room.as_mut_ptr(),
+            room.key_room.len(),
+            room.order.as_mut_ptr(),
+            room.order.len(),
+            room.slots.as_mut_ptr(),
+            room.slots.len(),
+            room.pages.as_mut_ptr(),
+            room.pages.len(),
+            room.told.as_mut_ptr(),
+            room.told.len(),
+        )
+    }
+}
+
+/// Feeds a page to a feed of so many keys.
+pub fn feed_page(
+    index: FeedIndex,
+    keys: u64,
+    page: u32,
+    bytes: &[u8],
+    order: &[u64],
+    slots: &mut [u64],
+) -> u32 {
+    unsafe {
+        bdz_feed_page(
+            index.compact,
+            index.n,
+            index.m,
+            index.seed,
+            index.modulus,
+            index.width,
+            keys,
+            page,
+            bytes.as_ptr(),
+            bytes.len(),
+            order.as_ptr(),
+            order.len(),
+            slots.as_mut_ptr(),
+            slots.len(),
+        )
+    }
+}
+
+/// The answer is told in one word.
+pub fn feed_ask(index: FeedIndex, question: Question, told: &mut [u32]) -> u32 {
+    unsafe {
+        bdz_feed_ask(
+            index.compact,
+            index.n,
+            index.m,
+            index.seed,
+            index.modulus,
+            index.width,
+            question.keys,
+            question.lent.as_ptr(),
+            question.lent.len(),
+            question.position,
+            question.occupancy.as_ptr(),
+            question.occupancy.len(),
+            question.supers.as_ptr(),
+            question.supers.len(),
+            question.slots.as_ptr(),
+            question.slots.len(),
+            told.as_mut_ptr(),
+            told.len(),
         )
     }
 }

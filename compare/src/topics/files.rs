@@ -50,12 +50,21 @@ impl Folder {
             0..HEADER => length.min(first.len() as u64),
             _ => length,
         };
+        Opened::of_rust(self.read(compact, first, length), first)
+    }
+
+    /// The Rust's index of a whole image. Its table stays in the file, where the next one is laid.
+    pub fn index(&self, compact: bool, image: &[u8]) -> BdzMphf {
+        let index = self.read(compact, image, image.len() as u64);
+        index.expect("a whole image opens")
+    }
+
+    fn read(&self, compact: bool, first: &[u8], length: u64) -> Result<BdzMphf, StoreError> {
         let path = self.lay(first, length);
-        let answer = match compact {
+        match compact {
             true => BdzMphf::read_compact_from(&path),
             false => BdzMphf::read_packed_from(&path),
-        };
-        Opened::of_rust(answer, first)
+        }
     }
 
     /// A file of so many bytes, with zeros where the first ones are fewer. They take no place in

@@ -221,7 +221,7 @@ impl Record {
 }
 
 /// What the Rust finds. Where the ones of a rank wrap, it is spared the sum.
-fn rust_answers(rust: &BdzMphf, keys: &[u64]) -> Vec<u32> {
+pub fn rust_answers(rust: &BdzMphf, keys: &[u64]) -> Vec<u32> {
     let all = |keys: &[u64]| {
         let found = rust.index_batch(keys, &mut IoCtx::none());
         found.expect("the Rust does not refuse")
@@ -237,18 +237,31 @@ fn rust_answers(rust: &BdzMphf, keys: &[u64]) -> Vec<u32> {
 
 /// The answer for a key whose ones wrap.
 fn wrapped_answer(rust: &BdzMphf, key: u64) -> Option<u32> {
-    let rank = rust.compact.as_ref().filter(|_| rust.n > 1)?;
-    let (_, vertex) = picked(rust, key);
-    let ones = wrapped_rank(rank, vertex)?;
+    if rust.n < 2 {
+        return None;
+    }
+    let (vertices, words) = met(rust, key);
+    wrapped_at(rust, vertices, words)
+}
+
+/// The same by the vertices and the words of the key. There are two keys or more.
+pub fn wrapped_at(rust: &BdzMphf, vertices: [u32; 3], words: [u32; 3]) -> Option<u32> {
+    let rank = rust.compact.as_ref()?;
+    let ones = wrapped_rank(rank, picked(vertices, words))?;
     Some(ones.min(rust.n - 1))
 }
 
-/// The words of a key, and the vertex that they pick in a compact index. There are two keys or more.
-fn picked(rust: &BdzMphf, key: u64) -> ([u32; 3], u32) {
+/// The vertices of a key and their words. There are two keys or more.
+fn met(rust: &BdzMphf, key: u64) -> ([u32; 3], [u32; 3]) {
     let vertices = bdz::hash_verts(key, rust.seed, rust.m, rust.compact.is_some());
     let words = vertices.map(|vertex| table_of(rust)[vertex as usize]);
+    (vertices, words)
+}
+
+/// The vertex that the words pick in a compact index.
+fn picked(vertices: [u32; 3], words: [u32; 3]) -> u32 {
     let sum = words.into_iter().fold(0, u32::wrapping_add);
-    (words, vertices[sum as usize % 3])
+    vertices[sum as usize % 3]
 }
 
 /// For how many keys there is room, and for how many answers.
@@ -450,7 +463,7 @@ fn rust_single(record: &Record, key: u64) -> u32 {
 }
 
 /// Keys as they come, at the ends of a word, and such as meet on a vertex or beside it.
-fn some_keys(rng: &mut Rng, record: &Record, count: usize) -> Vec<u64> {
+pub fn some_keys(rng: &mut Rng, record: &Record, count: usize) -> Vec<u64> {
     let mut key = || match rng.below(4) {
         0 => rng.edge_u64(),
         1 => key_of(crowded_hash(rng, record.m), record.seed),
@@ -524,13 +537,14 @@ fn made_index(tally: &mut Tally, rng: &mut Rng, compact: bool, m: u32) -> Result
 /// The counts show that sums of all kinds wrap, and that n cuts answers.
 fn notice_cases(tally: &mut Tally, rust: &BdzMphf, keys: &[u64]) {
     for &key in keys {
-        let (words, vertex) = picked(rust, key);
+        let (vertices, words) = met(rust, key);
         if words.map(u64::from).iter().sum::<u64>() > u64::from(u32::MAX) {
             tally.notice("words that wrap");
         }
         let Some(rank) = &rust.compact else {
             continue;
         };
+        let vertex = picked(vertices, words);
         match wrapped_rank(rank, vertex) {
             Some(_) => tally.notice("ones that wrap"),
             None if rank.rank1(vertex) >= rust.n => tally.notice("answers cut to n - 1"),

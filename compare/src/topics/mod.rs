@@ -5,12 +5,13 @@ mod build_assigned;
 mod build_compact;
 pub mod builds;
 mod cut;
+pub mod feed;
 mod files;
 mod images;
 pub mod lookup;
 mod mix;
 mod openings;
-mod pack;
+pub mod pack;
 mod ranks;
 mod sizes;
 mod unpack;
@@ -25,7 +26,7 @@ pub struct Topic {
     run: fn(&mut Tally, &mut Rng) -> Result<(), Difference>,
 }
 
-pub const ALL: [Topic; 13] = [
+pub const ALL: [Topic; 14] = [
     mix::TOPIC,
     verts::TOPIC,
     sizes::TOPIC,
@@ -39,6 +40,7 @@ pub const ALL: [Topic; 13] = [
     openings::TOPIC,
     cut::TOPIC,
     audit::TOPIC,
+    feed::TOPIC,
 ];
 
 impl Topic {
