@@ -2,7 +2,7 @@
 //! that it only reads, fenced in as well.
 
 use crate::rng::Rng;
-use std::fmt::LowerHex;
+use std::fmt::{Formatter, LowerHex};
 
 /// Elements on each side of what a call is given, which it must leave alone.
 const FENCE: usize = 16;
@@ -31,6 +31,30 @@ impl Item for u64 {
     const ZERO: Self = 0;
     fn from_bits(bits: u64) -> Self {
         bits
+    }
+}
+
+/// An entry of a peel order, as the exports have it.
+#[repr(C)]
+#[derive(Clone, Copy, PartialEq)]
+pub struct Pair {
+    pub edge: u32,
+    pub vert: u32,
+}
+
+impl Item for Pair {
+    const ZERO: Self = Self { edge: 0, vert: 0 };
+    fn from_bits(bits: u64) -> Self {
+        Self {
+            edge: (bits >> 32) as u32,
+            vert: bits as u32,
+        }
+    }
+}
+
+impl LowerHex for Pair {
+    fn fmt(&self, f: &mut Formatter<'_>) -> std::fmt::Result {
+        write!(f, "({:#x}, {:#x})", self.edge, self.vert)
     }
 }
 
@@ -160,14 +184,13 @@ pub struct Sizes {
     pub degrees: usize,
     pub xors: usize,
     pub queue: usize,
-    pub order_edges: usize,
-    pub order_verts: usize,
+    pub order: usize,
     pub marks: usize,
     pub seen: usize,
 }
 
 impl Sizes {
-    pub const COUNT: usize = 9;
+    pub const COUNT: usize = 8;
 
     pub fn all(&self) -> [usize; Self::COUNT] {
         let mut copy = *self;
@@ -181,8 +204,7 @@ impl Sizes {
             &mut self.degrees,
             &mut self.xors,
             &mut self.queue,
-            &mut self.order_edges,
-            &mut self.order_verts,
+            &mut self.order,
             &mut self.marks,
             &mut self.seen,
         ]
@@ -216,8 +238,7 @@ pub struct Loan {
     pub degrees: Lent<u8>,
     pub xors: Lent<u32>,
     pub queue: Lent<u32>,
-    pub order_edges: Lent<u32>,
-    pub order_verts: Lent<u32>,
+    pub order: Lent<Pair>,
     pub marks: Lent<u8>,
     pub seen: Lent<u8>,
     pub answer: Lent<u64>,
@@ -225,7 +246,7 @@ pub struct Loan {
 }
 
 impl Loan {
-    /// The answer of a build: n, m, seed, modulus and width.
+    /// The index of a build: n, m, seed, modulus and width. Its status stands before them.
     pub const ANSWER: usize = 5;
 
     pub fn new(rng: &mut Rng, keys: usize, values: usize, lengths: Sizes) -> Self {
@@ -237,11 +258,10 @@ impl Loan {
             degrees: Lent::new(rng, lengths.degrees),
             xors: Lent::new(rng, lengths.xors),
             queue: Lent::new(rng, lengths.queue),
-            order_edges: Lent::new(rng, lengths.order_edges),
-            order_verts: Lent::new(rng, lengths.order_verts),
+            order: Lent::new(rng, lengths.order),
             marks: Lent::new(rng, lengths.marks),
             seen: Lent::new(rng, lengths.seen),
-            answer: Lent::new(rng, Self::ANSWER),
+            answer: Lent::new(rng, 1 + Self::ANSWER),
             lengths,
         }
     }
@@ -256,11 +276,10 @@ impl Loan {
             &mut self.table,
             &mut self.xors,
             &mut self.queue,
-            &mut self.order_edges,
-            &mut self.order_verts,
         ] {
             words.soil(rng);
         }
+        self.order.soil(rng);
         for bytes in [
             &mut self.occupancy,
             &mut self.degrees,
@@ -271,9 +290,13 @@ impl Loan {
         }
     }
 
+    pub fn status(&self) -> u32 {
+        u32::try_from(self.answer.given()[0]).expect("a status has 32 bits")
+    }
+
     pub fn answer(&self) -> [u64; Self::ANSWER] {
-        let given = self.answer.given();
-        given.try_into().expect("a loan has room for the answer")
+        let index = &self.answer.given()[1..];
+        index.try_into().expect("a loan has room for the answer")
     }
 
     /// The first place that a build left otherwise than it must. What the rooms for keys and values
@@ -293,8 +316,7 @@ impl Loan {
             .or_else(|| scratch("degrees", &self.degrees, needs.degrees, cleared))
             .or_else(|| scratch("xors", &self.xors, needs.xors, cleared))
             .or_else(|| scratch("queue", &self.queue, needs.queue, cleared))
-            .or_else(|| scratch("order_edges", &self.order_edges, needs.order_edges, cleared))
-            .or_else(|| scratch("order_verts", &self.order_verts, needs.order_verts, cleared))
+            .or_else(|| scratch("order", &self.order, needs.order, cleared))
             .or_else(|| scratch("marks", &self.marks, needs.marks, cleared))
             .or_else(|| scratch("seen", &self.seen, needs.seen, cleared))
     }

@@ -1,6 +1,6 @@
 //! The functions of the static library, each behind a safe call.
 
-use crate::lent::Loan;
+use crate::lent::{Loan, Pair};
 
 /// The status of a call that did what it was asked.
 pub const DONE: u32 = 0;
@@ -85,16 +85,19 @@ extern "C" {
     );
     fn bdz_unpack_g_at(body: *const u8, body_length: usize, v: u32, width: u32) -> u32;
     fn bdz_extract_g_window(part: *const u8, part_length: usize, start: u64, width: u32) -> u32;
-    fn bdz_build_assigned(
-        keys: *const u8,
-        keys_length: usize,
+    fn bdz_read_keys(keys: *const u8, keys_length: usize, out: *mut u64, out_length: usize) -> u32;
+    fn bdz_read_values(
         values: *const u8,
         values_length: usize,
+        out: *mut u32,
+        out_length: usize,
+    ) -> u32;
+    fn bdz_build_assigned(
+        keys: *const u64,
+        keys_length: usize,
+        values: *const u32,
+        values_length: usize,
         modulus: u32,
-        key_room: *mut u64,
-        key_room_length: usize,
-        value_room: *mut u32,
-        value_room_length: usize,
         table: *mut u32,
         table_length: usize,
         degrees: *mut u8,
@@ -103,22 +106,18 @@ extern "C" {
         xors_length: usize,
         queue: *mut u32,
         queue_length: usize,
-        order_edges: *mut u32,
-        order_edges_length: usize,
-        order_verts: *mut u32,
-        order_verts_length: usize,
+        order: *mut Pair,
+        order_length: usize,
         marks: *mut u8,
         marks_length: usize,
         seen: *mut u8,
         seen_length: usize,
         answer: *mut u64,
         answer_length: usize,
-    ) -> u32;
+    );
     fn bdz_build_compact(
-        keys: *const u8,
+        keys: *const u64,
         keys_length: usize,
-        key_room: *mut u64,
-        key_room_length: usize,
         table: *mut u32,
         table_length: usize,
         occupancy: *mut u8,
@@ -129,15 +128,13 @@ extern "C" {
         xors_length: usize,
         queue: *mut u32,
         queue_length: usize,
-        order_edges: *mut u32,
-        order_edges_length: usize,
-        order_verts: *mut u32,
-        order_verts_length: usize,
+        order: *mut Pair,
+        order_length: usize,
         marks: *mut u8,
         marks_length: usize,
         answer: *mut u64,
         answer_length: usize,
-    ) -> u32;
+    );
     fn bdz_popcount_bits(occ: *const u8, occ_length: usize, lo: u64, hi: u64) -> u32;
     fn bdz_supers_from_occ_bytes(
         m: u32,
@@ -376,30 +373,40 @@ pub fn extract_g_window(part: &[u8], start: u64, width: u32) -> u32 {
     unsafe { bdz_extract_g_window(part.as_ptr(), part.len(), start, width) }
 }
 
-/// The loan has a room for every key and for every value.
+/// The words of keys that come as bytes.
+pub fn read_keys(keys: &[u8], out: &mut [u64]) -> u32 {
+    unsafe { bdz_read_keys(keys.as_ptr(), keys.len(), out.as_mut_ptr(), out.len()) }
+}
+
+/// The words of values that come as bytes.
+pub fn read_values(values: &[u8], out: &mut [u32]) -> u32 {
+    unsafe { bdz_read_values(values.as_ptr(), values.len(), out.as_mut_ptr(), out.len()) }
+}
+
+/// The loan has a room for every key and for every value, into which they are read first.
 pub fn build_assigned(keys: &[u8], values: &[u8], modulus: u32, loan: &mut Loan) -> u32 {
     let key_room = loan.key_room.given_mut();
     let value_room = loan.value_room.given_mut();
+    for status in [read_keys(keys, key_room), read_values(values, value_room)] {
+        if status != DONE {
+            return status;
+        }
+    }
     let table = loan.table.given_mut();
     let degrees = loan.degrees.given_mut();
     let xors = loan.xors.given_mut();
     let queue = loan.queue.given_mut();
-    let order_edges = loan.order_edges.given_mut();
-    let order_verts = loan.order_verts.given_mut();
+    let order = loan.order.given_mut();
     let marks = loan.marks.given_mut();
     let seen = loan.seen.given_mut();
     let answer = loan.answer.given_mut();
     unsafe {
         bdz_build_assigned(
-            keys.as_ptr(),
-            keys.len(),
-            values.as_ptr(),
-            values.len(),
+            key_room.as_ptr(),
+            keys.len() / 8,
+            value_room.as_ptr(),
+            values.len() / 4,
             modulus,
-            key_room.as_mut_ptr(),
-            key_room.len(),
-            value_room.as_mut_ptr(),
-            value_room.len(),
             table.as_mut_ptr(),
             table.len(),
             degrees.as_mut_ptr(),
@@ -408,38 +415,38 @@ pub fn build_assigned(keys: &[u8], values: &[u8], modulus: u32, loan: &mut Loan)
             xors.len(),
             queue.as_mut_ptr(),
             queue.len(),
-            order_edges.as_mut_ptr(),
-            order_edges.len(),
-            order_verts.as_mut_ptr(),
-            order_verts.len(),
+            order.as_mut_ptr(),
+            order.len(),
             marks.as_mut_ptr(),
             marks.len(),
             seen.as_mut_ptr(),
             seen.len(),
             answer.as_mut_ptr(),
             answer.len(),
-        )
+        );
     }
+    loan.status()
 }
 
-/// The loan has a room for every key.
+/// The loan has a room for every key, into which they are read first.
 pub fn build_compact(keys: &[u8], loan: &mut Loan) -> u32 {
     let key_room = loan.key_room.given_mut();
+    let status = read_keys(keys, key_room);
+    if status != DONE {
+        return status;
+    }
     let table = loan.table.given_mut();
     let occupancy = loan.occupancy.given_mut();
     let degrees = loan.degrees.given_mut();
     let xors = loan.xors.given_mut();
     let queue = loan.queue.given_mut();
-    let order_edges = loan.order_edges.given_mut();
-    let order_verts = loan.order_verts.given_mut();
+    let order = loan.order.given_mut();
     let marks = loan.marks.given_mut();
     let answer = loan.answer.given_mut();
     unsafe {
         bdz_build_compact(
-            keys.as_ptr(),
-            keys.len(),
-            key_room.as_mut_ptr(),
-            key_room.len(),
+            key_room.as_ptr(),
+            keys.len() / 8,
             table.as_mut_ptr(),
             table.len(),
             occupancy.as_mut_ptr(),
@@ -450,16 +457,15 @@ pub fn build_compact(keys: &[u8], loan: &mut Loan) -> u32 {
             xors.len(),
             queue.as_mut_ptr(),
             queue.len(),
-            order_edges.as_mut_ptr(),
-            order_edges.len(),
-            order_verts.as_mut_ptr(),
-            order_verts.len(),
+            order.as_mut_ptr(),
+            order.len(),
             marks.as_mut_ptr(),
             marks.len(),
             answer.as_mut_ptr(),
             answer.len(),
-        )
+        );
     }
+    loan.status()
 }
 
 pub fn popcount_bits(occ: &[u8], lo: u64, hi: u64) -> u32 {

@@ -61,7 +61,7 @@ impl Build<'_> {
         if n > 1 {
             (needs.degrees, needs.marks) = (m, m);
             (needs.xors, needs.queue) = (m, m);
-            (needs.order_edges, needs.order_verts) = (n, n);
+            needs.order = n;
         }
         needs
     }

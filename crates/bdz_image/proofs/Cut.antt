@@ -20,6 +20,7 @@ use Rattle.bdz_table.specs.Build.{verticesFor, widthFor, indexFor, refusedBuild
 use Rattle.bdz_table.specs.Rank.{onesBelow, superCounts}
 use Rattle.bdz_table.specs.declared.index.Built.{Built}
 use Rattle.bdz_table.specs.declared.index.Index.{Index}
+use Rattle.bdz_table.specs.declared.pairs.Pair.{Pair}
 use Rattle.bdz_table.proofs.Answered.{occupancy-long}
 use Rattle.bdz_table.proofs.Has.{lt-or-ge}
 use Rattle.bdz_table.proofs.Ranks.{below-front, supers-front}
@@ -223,8 +224,8 @@ module _ {index : Index} {table occ image : List ℕ} {number : ℕ} {after : Li
 -- ---- from a build to a file
 
 -- an accepted assigned build, of any number of keys, and the writer after it
-pub assigned-cut : {keys values : List ℕ} {modulus : ℕ} {table degrees xors queue edges verts marks seen : List ℕ} {r : Built} {table′ degrees′ xors′ queue′ edges′ verts′ marks′ seen′ : List ℕ}
-    → BuiltAssigned keys values modulus table degrees xors queue edges verts marks seen r table′ degrees′ xors′ queue′ edges′ verts′ marks′ seen′ → r .no ≡ 0 → modulus < 2 ^ 32
+pub assigned-cut : {keys values : List ℕ} {modulus : ℕ} {table degrees xors queue : List ℕ} {order : List Pair} {marks seen : List ℕ} {r : Built} {table′ degrees′ xors′ queue′ : List ℕ} {order′ : List Pair} {marks′ seen′ : List ℕ}
+    → BuiltAssigned keys values modulus table degrees xors queue order marks seen r table′ degrees′ xors′ queue′ order′ marks′ seen′ → r .no ≡ 0 → modulus < 2 ^ 32
     → {occ image after : List ℕ} {number : ℕ} → Wrote (r .index) table′ occ image number after → imageLen (r .index) ≤ length image
     → WrittenImage Assigned (r .index) table′ occ image number after
 unfolding indexFor
@@ -258,8 +259,8 @@ compact-written keys old {table} {occ} {image} {number} {after} made is w room =
     }
 
 -- an accepted compact build, of any number of keys, and the writer after it
-pub compact-cut : {keys table occupancy degrees xors queue edges verts marks : List ℕ} {r : Built} {table′ occupancy′ degrees′ xors′ queue′ edges′ verts′ marks′ : List ℕ}
-    → BuiltCompact keys table occupancy degrees xors queue edges verts marks r table′ occupancy′ degrees′ xors′ queue′ edges′ verts′ marks′ → r .no ≡ 0
+pub compact-cut : {keys table occupancy degrees xors queue : List ℕ} {order : List Pair} {marks : List ℕ} {r : Built} {table′ occupancy′ degrees′ xors′ queue′ : List ℕ} {order′ : List Pair} {marks′ : List ℕ}
+    → BuiltCompact keys table occupancy degrees xors queue order marks r table′ occupancy′ degrees′ xors′ queue′ order′ marks′ → r .no ≡ 0
     → {image after : List ℕ} {number : ℕ} → Wrote (r .index) table′ occupancy′ image number after → imageLen (r .index) ≤ length image
     → WrittenCompact keys (r .index) table′ occupancy′ image number after
 compact-cut {keys} {table} {occupancy} b z w room =

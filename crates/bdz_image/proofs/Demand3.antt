@@ -29,6 +29,7 @@ use Rattle.bdz_table.specs.Lookup.{fewAnswer, answerOf}
 use Rattle.bdz_table.specs.Rank.{superAt, superCounts, supersNo, SuperCounted}
 use Rattle.bdz_table.specs.declared.index.Built.{Built}
 use Rattle.bdz_table.specs.declared.index.Index.{Index}
+use Rattle.bdz_table.specs.declared.pairs.Pair.{Pair}
 use Rattle.bdz_table.proofs.Answered.{OnceEach, assigned-slots, compactSlot, compact-slots, occupancy-long}
 use Rattle.bdz_table.proofs.Fold.{clash}
 use Rattle.bdz_table.proofs.Has.{lt-or-ge}
@@ -332,17 +333,17 @@ module _ {kind : Kind} {index : Index} {table bits image : List ℕ} {number : �
 
 -- an accepted assigned build of any number of keys, and the writer after it: each key is answered its value, whatever occupancy and super
 -- counts are lent
-pub demand3-assigned : {keys values : List ℕ} {modulus : ℕ} {table degrees xors queue edges verts marks seen : List ℕ} {r : Built} {table′ degrees′ xors′ queue′ edges′ verts′ marks′ seen′ : List ℕ}
-    → BuiltAssigned keys values modulus table degrees xors queue edges verts marks seen r table′ degrees′ xors′ queue′ edges′ verts′ marks′ seen′ → r .no ≡ 0 → modulus < 2 ^ 32
+pub demand3-assigned : {keys values : List ℕ} {modulus : ℕ} {table degrees xors queue : List ℕ} {order : List Pair} {marks seen : List ℕ} {r : Built} {table′ degrees′ xors′ queue′ : List ℕ} {order′ : List Pair} {marks′ seen′ : List ℕ}
+    → BuiltAssigned keys values modulus table degrees xors queue order marks seen r table′ degrees′ xors′ queue′ order′ marks′ seen′ → r .no ≡ 0 → modulus < 2 ^ 32
     → {occ image after : List ℕ} {number : ℕ} → Wrote (r .index) table′ occ image number after → imageLen (r .index) ≤ length image
     → (lent-occ lent-supers : List ℕ) → Demand3 Assigned (r .index) keys lent-occ lent-supers (λ e. getD values e 0) number after
 unfolding indexFor
-demand3-assigned {keys} {values} {modulus} {table} {degrees} {xors} {queue} {edges} {verts} {marks} {seen} {r} {table′} b z fits {occ} w room lent-occ lent-supers =
+demand3-assigned {keys} {values} {modulus} {table} {degrees} {xors} {queue} {order} {marks} {seen} {r} {table′} b z fits {occ} w room lent-occ lent-supers =
     let a = assigned-gives b z in
     let rest = drop (length (assignedTable keys values modulus)) table in
     let kind : r .index .kind ≡ Assigned = ap (λ (index : Index). index .kind) (a .1) in
     let told : (e : ℕ) → e < length keys → answerOf (r .index) table′ lent-occ lent-supers (getD keys e 0) ≡ getD values e 0 =
-    λ e l. rw (a .1, a .2) (assigned-slots keys values modulus rest lent-occ lent-supers (lengthsOf table degrees xors queue edges verts marks [] seen) (a .0) e l) in
+    λ e l. rw (a .1, a .2) (assigned-slots keys values modulus rest lent-occ lent-supers (lengthsOf table degrees xors queue order marks [] seen) (a .0) e l) in
     demand3 (assigned-made b z fits occ) (assigned-cut b z fits w room) keys lent-occ lent-supers (λ e. getD values e 0) (ap (λ (index : Index). index .n) (a .1)) (λ k. kinds (sym kind ∙ k)) (λ k. kinds (sym kind ∙ k)) told
 
 counts-long : (m : ℕ) (occ : List ℕ) → length (superCounts m occ) ≡ superCount m
@@ -357,13 +358,13 @@ pub record Demand3Compact (index : Index) (keys occ supers : List ℕ) (counted 
   pub demand : Demand3 Compact index keys occ supers slot number file
 
 -- an accepted compact build of any number of keys, the writer after it, and the super counts of the occupancy part of the file
-pub demand3-compact : {keys table occupancy degrees xors queue edges verts marks : List ℕ} {r : Built} {table′ occupancy′ degrees′ xors′ queue′ edges′ verts′ marks′ : List ℕ}
-    → BuiltCompact keys table occupancy degrees xors queue edges verts marks r table′ occupancy′ degrees′ xors′ queue′ edges′ verts′ marks′ → r .no ≡ 0
+pub demand3-compact : {keys table occupancy degrees xors queue : List ℕ} {order : List Pair} {marks : List ℕ} {r : Built} {table′ occupancy′ degrees′ xors′ queue′ : List ℕ} {order′ : List Pair} {marks′ : List ℕ}
+    → BuiltCompact keys table occupancy degrees xors queue order marks r table′ occupancy′ degrees′ xors′ queue′ order′ marks′ → r .no ≡ 0
     → {image after : List ℕ} {number : ℕ} → Wrote (r .index) table′ occupancy′ image number after → imageLen (r .index) ≤ length image
     → {supers supers′ : List ℕ} {counted : ℕ} → SuperCounted (r .index .m) (occupancyIn (r .index .m) after) supers counted supers′ → superCount (r .index .m) ≤ length supers
     → Demand3Compact (r .index) keys (occupancyIn (r .index .m) after) supers′ counted number after
 unfolding indexFor
-demand3-compact {keys} {table} {occupancy} {degrees} {xors} {queue} {edges} {verts} {marks} {r} {table′} b z {image} {after} {number} w room {supers} {supers′} {counted} s l =
+demand3-compact {keys} {table} {occupancy} {degrees} {xors} {queue} {order} {marks} {r} {table′} b z {image} {after} {number} w room {supers} {supers′} {counted} s l =
     let a = compact-gives b z in
     let c = compact-cut b z w room in
     let m = verticesFor Compact (length keys) in
@@ -378,7 +379,7 @@ demand3-compact {keys} {table} {occupancy} {degrees} {xors} {queue} {edges} {ver
     let after-is : supers′ ≡ counts ++ rest = s .after-is ∙ ap (λ (k : ℕ). written k counts supers) none in
     let same : counts ≡ superCounts m occ = ap (superCounts (r .index .m)) is ∙ ap (λ (k : ℕ). superCounts k occ) size in
     let behind = drop (length (compactTable keys)) table in
-    let lent = lengthsOf table degrees xors queue edges verts marks occupancy [] in
+    let lent = lengthsOf table degrees xors queue order marks occupancy [] in
     let told : (e : ℕ) → e < length keys → answerOf (r .index) table′ part supers′ (getD keys e 0) ≡ compactSlot keys behind [] rest e =
     λ e h. rw (after-is, same, is, a .2, a .1) in
     record {

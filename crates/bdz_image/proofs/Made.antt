@@ -20,6 +20,7 @@ use Rattle.bdz_table.specs.Seeds.{firstSeed}
 use Rattle.bdz_table.specs.Values.{valuesNo}
 use Rattle.bdz_table.specs.declared.index.Built.{Built}
 use Rattle.bdz_table.specs.declared.index.Index.{Index}
+use Rattle.bdz_table.specs.declared.pairs.Pair.{Pair}
 use Rattle.bdz_table.proofs.Answered.{built, occupancy-long}
 use Rattle.bdz_table.proofs.Begun.{assigned-passed, compact-passed, length-assigned, length-compact, values-below}
 use Rattle.bdz_table.proofs.Found.{none-refused, assigned-found, compact-found}
@@ -131,18 +132,18 @@ module _ (keys values : List ℕ) (modulus : ℕ) (lent : _) (ok : buildNo Assig
           (λ v l. rw (List·getD-append table rest 0 v (rw long l)) (lt-of-lt-of-le (assigned-below h v l) (width-holds modulus (omega arith))))
 
 -- what an accepted build has answered and written
-pub assigned-gives : {keys values : List ℕ} {modulus : ℕ} {table degrees xors queue edges verts marks seen : List ℕ} {r : Built} {table′ degrees′ xors′ queue′ edges′ verts′ marks′ seen′ : List ℕ}
-    → BuiltAssigned keys values modulus table degrees xors queue edges verts marks seen r table′ degrees′ xors′ queue′ edges′ verts′ marks′ seen′ → r .no ≡ 0
-    → (buildNo Assigned keys (assignedEarly (length keys) (length values) modulus (lengthsOf table degrees xors queue edges verts marks [] seen)) (valuesNo modulus [] values) ≡ 0)
+pub assigned-gives : {keys values : List ℕ} {modulus : ℕ} {table degrees xors queue : List ℕ} {order : List Pair} {marks seen : List ℕ} {r : Built} {table′ degrees′ xors′ queue′ : List ℕ} {order′ : List Pair} {marks′ seen′ : List ℕ}
+    → BuiltAssigned keys values modulus table degrees xors queue order marks seen r table′ degrees′ xors′ queue′ order′ marks′ seen′ → r .no ≡ 0
+    → (buildNo Assigned keys (assignedEarly (length keys) (length values) modulus (lengthsOf table degrees xors queue order marks [] seen)) (valuesNo modulus [] values) ≡ 0)
     × (r .index ≡ indexFor Assigned keys modulus) × (table′ ≡ over (assignedTable keys values modulus) table)
-assigned-gives {keys} {values} {modulus} {table} {degrees} {xors} {queue} {edges} {verts} {marks} {seen} {r} b z =
-    let lent = lengthsOf table degrees xors queue edges verts marks [] seen in
+assigned-gives {keys} {values} {modulus} {table} {degrees} {xors} {queue} {order} {marks} {seen} {r} b z =
+    let lent = lengthsOf table degrees xors queue order marks [] seen in
     let a = built (buildNo Assigned keys (assignedEarly (length keys) (length values) modulus lent) (valuesNo modulus [] values)) (indexFor Assigned keys modulus) r (b .to .answer-is) z in
     (a .0, a .1, b .to .table-is ∙ ap (λ (number : ℕ). written number (assignedTable keys values modulus) table) (a .0))
 
 -- a build of no keys accepts any modulus, and the header has 32 bits for it
-pub assigned-made : {keys values : List ℕ} {modulus : ℕ} {table degrees xors queue edges verts marks seen : List ℕ} {r : Built} {table′ degrees′ xors′ queue′ edges′ verts′ marks′ seen′ : List ℕ}
-    → BuiltAssigned keys values modulus table degrees xors queue edges verts marks seen r table′ degrees′ xors′ queue′ edges′ verts′ marks′ seen′ → r .no ≡ 0 → modulus < 2 ^ 32
+pub assigned-made : {keys values : List ℕ} {modulus : ℕ} {table degrees xors queue : List ℕ} {order : List Pair} {marks seen : List ℕ} {r : Built} {table′ degrees′ xors′ queue′ : List ℕ} {order′ : List Pair} {marks′ seen′ : List ℕ}
+    → BuiltAssigned keys values modulus table degrees xors queue order marks seen r table′ degrees′ xors′ queue′ order′ marks′ seen′ → r .no ≡ 0 → modulus < 2 ^ 32
     → (occ : List ℕ) → Made (r .index) table′ occ
 assigned-made {keys} {values} {modulus} {table} b z fits occ =
     let a = assigned-gives b z in
@@ -190,19 +191,19 @@ module _ (keys : List ℕ) (lent : _) (ok : buildNo Compact keys (compactEarly (
           made Compact keys (length keys) words occ few (omega arith) (λ k. omega arith) (λ k. refl) (omega (arith, length-append table trest)) room
           (λ v l. rw (List·getD-append table trest 0 v (rw long l)) (omega (arith, compact-below h v l)))
 
-pub compact-gives : {keys table occupancy degrees xors queue edges verts marks : List ℕ} {r : Built} {table′ occupancy′ degrees′ xors′ queue′ edges′ verts′ marks′ : List ℕ}
-    → BuiltCompact keys table occupancy degrees xors queue edges verts marks r table′ occupancy′ degrees′ xors′ queue′ edges′ verts′ marks′ → r .no ≡ 0
-    → (buildNo Compact keys (compactEarly (length keys) (lengthsOf table degrees xors queue edges verts marks occupancy [])) 0 ≡ 0)
+pub compact-gives : {keys table occupancy degrees xors queue : List ℕ} {order : List Pair} {marks : List ℕ} {r : Built} {table′ occupancy′ degrees′ xors′ queue′ : List ℕ} {order′ : List Pair} {marks′ : List ℕ}
+    → BuiltCompact keys table occupancy degrees xors queue order marks r table′ occupancy′ degrees′ xors′ queue′ order′ marks′ → r .no ≡ 0
+    → (buildNo Compact keys (compactEarly (length keys) (lengthsOf table degrees xors queue order marks occupancy [])) 0 ≡ 0)
     × (r .index ≡ indexFor Compact keys (length keys)) × (table′ ≡ over (compactTable keys) table) × (occupancy′ ≡ over (compactOccupancy keys) occupancy)
-compact-gives {keys} {table} {occupancy} {degrees} {xors} {queue} {edges} {verts} {marks} {r} b z =
-    let lent = lengthsOf table degrees xors queue edges verts marks occupancy [] in
+compact-gives {keys} {table} {occupancy} {degrees} {xors} {queue} {order} {marks} {r} b z =
+    let lent = lengthsOf table degrees xors queue order marks occupancy [] in
     let a = built (buildNo Compact keys (compactEarly (length keys) lent) 0) (indexFor Compact keys (length keys)) r (b .to .answer-is) z in
     let t = b .to .table-is ∙ ap (λ (number : ℕ). written number (compactTable keys) table) (a .0) in
     let o = b .occupancy-is ∙ ap (λ (number : ℕ). written number (compactOccupancy keys) occupancy) (a .0) in
     (a .0, a .1, t, o)
 
-pub compact-made : {keys table occupancy degrees xors queue edges verts marks : List ℕ} {r : Built} {table′ occupancy′ degrees′ xors′ queue′ edges′ verts′ marks′ : List ℕ}
-    → BuiltCompact keys table occupancy degrees xors queue edges verts marks r table′ occupancy′ degrees′ xors′ queue′ edges′ verts′ marks′ → r .no ≡ 0
+pub compact-made : {keys table occupancy degrees xors queue : List ℕ} {order : List Pair} {marks : List ℕ} {r : Built} {table′ occupancy′ degrees′ xors′ queue′ : List ℕ} {order′ : List Pair} {marks′ : List ℕ}
+    → BuiltCompact keys table occupancy degrees xors queue order marks r table′ occupancy′ degrees′ xors′ queue′ order′ marks′ → r .no ≡ 0
     → Made (r .index) table′ occupancy′
 compact-made {keys} {table} {occupancy} b z =
     let a = compact-gives b z in

@@ -1,4 +1,4 @@
 mod Answers
 pub mod OneAnswer
-mod OneTold
+pub mod OneTold
 mod Telling

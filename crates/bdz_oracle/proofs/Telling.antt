@@ -1,4 +1,4 @@
--- Keys and values read from their bytes, the words of an answer, and the returns of the exported builds, lookup and start of a feed. Assumes nothing.
+-- Keys and values read from their bytes, the words of an answer, and the returns of the exported lookup and start of a feed. Assumes nothing.
 use mathlib.Core.Path.{_≡_, refl, ap, _∙_}
 use mathlib.Core.Bool.{true, false}
 use mathlib.Core.List.{List, [], _∷_}
@@ -11,14 +11,12 @@ use Rattle.bdz_base.specs.Buffer.{tab, over}
 use Rattle.bdz_base.specs.Pack.{bitsAt}
 use Rattle.bdz_base.proofs.Buffers.{length-tab}
 use Rattle.bdz_base.proofs.Digits.{bits-part}
-use Rattle.bdz_table.specs.Build.{BuiltAssigned, BuiltCompact}
 use Rattle.bdz_table.specs.Lookup.{LookedUp}
-use Rattle.bdz_table.specs.declared.index.Built.{Built}
 use Rattle.bdz_table.specs.declared.index.Index.{Index}
 use Rattle.bdz_image.specs.Feeding.{Opened}
 use Rattle.bdz_image.specs.declared.feed.Feed.{Feed}
 use Rattle.bdz_oracle.specs.Keys.{keyCount, keyAt}
-use Rattle.bdz_oracle.specs.Building.{valueAt, valueCount, keysIn, valuesIn, fieldsOf, lacksAssigned, lacksCompact, ToldAssigned, ToldCompact}
+use Rattle.bdz_oracle.specs.Building.{valueAt, keysIn}
 use Rattle.bdz_oracle.specs.Feeding.{lacksStart, ToldStart}
 use Rattle.bdz_oracle.specs.Looking.{lacksKeys, lookNo, ToldLookup}
 
@@ -45,6 +43,16 @@ five (x ∷ y ∷ z ∷ []) h = absurd (omega arith)
 five (x ∷ y ∷ z ∷ u ∷ []) h = absurd (omega arith)
 five (x ∷ y ∷ z ∷ u ∷ v ∷ old) h = refl
 
+-- the six words of a build's
+pub six : (old : List ℕ) {a b c d e f : ℕ} → 6 ≤ length old → set (set (set (set (set (set old 0 a) 1 b) 2 c) 3 d) 4 e) 5 f ≡ over (a ∷ b ∷ c ∷ d ∷ e ∷ f ∷ []) old
+six [] h = absurd (omega arith)
+six (x ∷ []) h = absurd (omega arith)
+six (x ∷ y ∷ []) h = absurd (omega arith)
+six (x ∷ y ∷ z ∷ []) h = absurd (omega arith)
+six (x ∷ y ∷ z ∷ u ∷ []) h = absurd (omega arith)
+six (x ∷ y ∷ z ∷ u ∷ v ∷ []) h = absurd (omega arith)
+six (x ∷ y ∷ z ∷ u ∷ v ∷ w ∷ old) h = refl
+
 -- the one of an ask
 pub one : (old : List ℕ) {a : ℕ} → 1 ≤ length old → set old 0 a ≡ over (a ∷ []) old
 one [] h = absurd (omega arith)
@@ -62,29 +70,6 @@ read-part f n old e = rw e (take-at (tab f n) (drop (length (tab f n)) old) n (l
 
 pub read-long : (f : ℕ → ℕ) (n : ℕ) (old : List ℕ) {after : List ℕ} → after ≡ over (tab f n) old → n ≡ length (take n after)
 read-long f n old e = rw (read-part f n old e, length-tab f n)
-
--- ---- the returns
-
--- the assigned build that touches nothing
-pub no-assigned : (bytes valueBytes : List ℕ) (modulus : ℕ) (keyRoom valueRoom table degrees xors queue edges verts marks seen answer : List ℕ) → lacksAssigned bytes valueBytes keyRoom valueRoom answer ≡ true → ToldAssigned bytes valueBytes modulus keyRoom valueRoom table degrees xors queue edges verts marks seen answer 14 keyRoom valueRoom table degrees xors queue edges verts marks seen answer
-no-assigned bytes valueBytes modulus keyRoom valueRoom table degrees xors queue edges verts marks seen answer h = rw h (record { number-is = refl; key-room-is = refl; value-room-is = refl; table-is = refl; degrees-are = refl; xors-are = refl; queue-is = refl; edges-are = refl; verts-are = refl; marks-are = refl; seen-is = refl; answer-is = refl })
-
--- and the one that is told
-pub some-assigned : (bytes valueBytes : List ℕ) (modulus : ℕ) (keyRoom valueRoom table degrees xors queue edges verts marks seen answer : List ℕ) {keyRoom′ valueRoom′ table′ degrees′ xors′ queue′ edges′ verts′ marks′ seen′ answer′ : List ℕ} {built : Built} → lacksAssigned bytes valueBytes keyRoom valueRoom answer ≡ false → keyRoom′ ≡ over (keysIn bytes) keyRoom → valueRoom′ ≡ over (valuesIn valueBytes) valueRoom → BuiltAssigned (take (keyCount bytes) keyRoom′) (take (valueCount valueBytes) valueRoom′) modulus table degrees xors queue edges verts marks seen built table′ degrees′ xors′ queue′ edges′ verts′ marks′ seen′ → answer′ ≡ over (fieldsOf (built .index)) answer → ToldAssigned bytes valueBytes modulus keyRoom valueRoom table degrees xors queue edges verts marks seen answer (built .no) keyRoom′ valueRoom′ table′ degrees′ xors′ queue′ edges′ verts′ marks′ seen′ answer′
-some-assigned bytes valueBytes modulus keyRoom valueRoom table degrees xors queue edges verts marks seen answer h k v b e =
-    let ks = read-part (keyAt bytes) (keyCount bytes) keyRoom k in
-    let vs = read-part (valueAt valueBytes) (valueCount valueBytes) valueRoom v in
-    rw h (record { built = _; is-built = rw (ks, vs) at b; number-is = refl; key-room-is = k; value-room-is = v; answer-is = e })
-
--- the compact build that touches nothing
-pub no-compact : (bytes : List ℕ) (keyRoom table occupancy degrees xors queue edges verts marks answer : List ℕ) → lacksCompact bytes keyRoom answer ≡ true → ToldCompact bytes keyRoom table occupancy degrees xors queue edges verts marks answer 14 keyRoom table occupancy degrees xors queue edges verts marks answer
-no-compact bytes keyRoom table occupancy degrees xors queue edges verts marks answer h = rw h (record { number-is = refl; key-room-is = refl; table-is = refl; occupancy-is = refl; degrees-are = refl; xors-are = refl; queue-is = refl; edges-are = refl; verts-are = refl; marks-are = refl; answer-is = refl })
-
--- and the one that is told
-pub some-compact : (bytes : List ℕ) (keyRoom table occupancy degrees xors queue edges verts marks answer : List ℕ) {keyRoom′ table′ occupancy′ degrees′ xors′ queue′ edges′ verts′ marks′ answer′ : List ℕ} {built : Built} → lacksCompact bytes keyRoom answer ≡ false → keyRoom′ ≡ over (keysIn bytes) keyRoom → BuiltCompact (take (keyCount bytes) keyRoom′) table occupancy degrees xors queue edges verts marks built table′ occupancy′ degrees′ xors′ queue′ edges′ verts′ marks′ → answer′ ≡ over (fieldsOf (built .index)) answer → ToldCompact bytes keyRoom table occupancy degrees xors queue edges verts marks answer (built .no) keyRoom′ table′ occupancy′ degrees′ xors′ queue′ edges′ verts′ marks′ answer′
-some-compact bytes keyRoom table occupancy degrees xors queue edges verts marks answer h k b e =
-    let ks = read-part (keyAt bytes) (keyCount bytes) keyRoom k in
-    rw h (record { built = _; is-built = rw (ks) at b; number-is = refl; key-room-is = k; answer-is = e })
 
 -- ---- lookups
 

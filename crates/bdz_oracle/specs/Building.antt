@@ -1,15 +1,18 @@
--- The builds on keys and values that come as bytes: what is answered, and what each lent buffer then holds. Assumes nothing.
+-- Keys and values that come as bytes, and the builds told in numbers: what is answered, and what each lent buffer then holds.
+-- Assumes nothing.
 use mathlib.Core.Path.{_≡_}
-use mathlib.Core.Bool.{Bool, true, false, _||_}
+use mathlib.Core.Bool.{cond}
 use mathlib.Core.List.{List, [], _∷_}
 use Prim.Native.Nat.{ℕ, _*_, _/_}
 use lib.Dec.{ltb}
 use lib.ListN.{length}
 use Rattle.bdz_base.specs.Buffer.{tab, over}
 use Rattle.bdz_base.specs.Pack.{bitsAt}
+use Rattle.bdz_base.specs.Refusal.{refuse}
 use Rattle.bdz_table.specs.Build.{BuiltAssigned, BuiltCompact}
 use Rattle.bdz_table.specs.declared.index.Index.{Index}
 use Rattle.bdz_table.specs.declared.index.Built.{Built}
+use Rattle.bdz_table.specs.declared.pairs.Pair.{Pair}
 use Rattle.bdz_oracle.specs.Keys.{keyCount, keyAt}
 
 -- ---- what comes as bytes
@@ -34,75 +37,28 @@ valuesIn bytes = tab (valueAt bytes) (valueCount bytes)
 abbrev pub fieldsOf : Index → List ℕ
 fieldsOf index = index .n ∷ index .m ∷ index .seed ∷ index .modulus ∷ index .width ∷ []
 
--- "a lent buffer is shorter than its stated need": a word a key, a word a value, five words for the answer
-abbrev pub lacksAssigned : List ℕ → List ℕ → List ℕ → List ℕ → List ℕ → Bool
-lacksAssigned bytes valueBytes keyRoom valueRoom answer =
-    ltb (length keyRoom) (keyCount bytes) || (ltb (length valueRoom) (valueCount valueBytes) || ltb (length answer) 5)
+-- "a lent buffer is shorter than its stated need": 14, and it stays as it is; else the number, and the words at its front
+pub record Told (need : ℕ) (no : ℕ) (words answer : List ℕ) (number : ℕ) (answer′ : List ℕ) : Type 0 where
+  pub number-is : number ≡ refuse 14 (ltb (length answer) need) no
+  pub answer-is : answer′ ≡ cond (ltb (length answer) need) answer (over words answer)
 
-abbrev pub lacksCompact : List ℕ → List ℕ → List ℕ → Bool
-lacksCompact bytes keyRoom answer = ltb (length keyRoom) (keyCount bytes) || ltb (length answer) 5
+-- words read from bytes
+abbrev pub ToldWords : ℕ → List ℕ → List ℕ → ℕ → List ℕ → Type 0
+ToldWords count words = Told count 0 words
 
--- ---- the promises
+-- ---- the builds
 
--- the harness has no room for what it reads or tells: 14, and every buffer is as it was
-pub record NoAssigned (keyRoom valueRoom table degrees xors queue edges verts marks seen answer : List ℕ) (number : ℕ) (keyRoom′ valueRoom′ table′ degrees′ xors′ queue′ edges′ verts′ marks′ seen′ answer′ : List ℕ) : Type 0 where
-  pub number-is : number ≡ 14
-  pub key-room-is : keyRoom′ ≡ keyRoom
-  pub value-room-is : valueRoom′ ≡ valueRoom
-  pub table-is : table′ ≡ table
-  pub degrees-are : degrees′ ≡ degrees
-  pub xors-are : xors′ ≡ xors
-  pub queue-is : queue′ ≡ queue
-  pub edges-are : edges′ ≡ edges
-  pub verts-are : verts′ ≡ verts
-  pub marks-are : marks′ ≡ marks
-  pub seen-is : seen′ ≡ seen
-  pub answer-is : answer′ ≡ answer
+-- a build's answer in six words, where they have room
+abbrev pub toldBuilt : Built → List ℕ → List ℕ
+toldBuilt built answer = cond (ltb (length answer) 6) answer (over (built .no ∷ fieldsOf (built .index)) answer)
 
--- the build's own promise on the keys and values that the bytes make, told in numbers
-pub record SomeAssigned (bytes valueBytes : List ℕ) (modulus : ℕ) (keyRoom valueRoom table degrees xors queue edges verts marks seen answer : List ℕ) (number : ℕ) (keyRoom′ valueRoom′ table′ degrees′ xors′ queue′ edges′ verts′ marks′ seen′ answer′ : List ℕ) : Type 0 where
+-- the build's own promise, and its answer told
+pub record ToldAssigned (keys values : List ℕ) (modulus : ℕ) (table degrees xors queue : List ℕ) (order : List Pair) (marks seen answer table′ degrees′ xors′ queue′ : List ℕ) (order′ : List Pair) (marks′ seen′ answer′ : List ℕ) : Type 0 where
   pub built : Built
-  pub is-built : BuiltAssigned (keysIn bytes) (valuesIn valueBytes) modulus table degrees xors queue edges verts marks seen built table′ degrees′ xors′ queue′ edges′ verts′ marks′ seen′
-  pub number-is : number ≡ built .no
-  pub key-room-is : keyRoom′ ≡ over (keysIn bytes) keyRoom
-  pub value-room-is : valueRoom′ ≡ over (valuesIn valueBytes) valueRoom
-  pub answer-is : answer′ ≡ over (fieldsOf (built .index)) answer
+  pub is-built : BuiltAssigned keys values modulus table degrees xors queue order marks seen built table′ degrees′ xors′ queue′ order′ marks′ seen′
+  pub answer-is : answer′ ≡ toldBuilt built answer
 
--- which of the two it is
-abbrev pub AssignedIf : Bool → List ℕ → List ℕ → ℕ → List ℕ → List ℕ → List ℕ → List ℕ → List ℕ → List ℕ → List ℕ → List ℕ → List ℕ → List ℕ → List ℕ → ℕ → List ℕ → List ℕ → List ℕ → List ℕ → List ℕ → List ℕ → List ℕ → List ℕ → List ℕ → List ℕ → List ℕ → Type 0
-AssignedIf true bytes valueBytes modulus = NoAssigned
-AssignedIf false bytes valueBytes modulus = SomeAssigned bytes valueBytes modulus
-
--- the assigned build's whole promise
-abbrev pub ToldAssigned : List ℕ → List ℕ → ℕ → List ℕ → List ℕ → List ℕ → List ℕ → List ℕ → List ℕ → List ℕ → List ℕ → List ℕ → List ℕ → List ℕ → ℕ → List ℕ → List ℕ → List ℕ → List ℕ → List ℕ → List ℕ → List ℕ → List ℕ → List ℕ → List ℕ → List ℕ → Type 0
-ToldAssigned bytes valueBytes modulus keyRoom valueRoom table degrees xors queue edges verts marks seen answer =
-    AssignedIf (lacksAssigned bytes valueBytes keyRoom valueRoom answer) bytes valueBytes modulus keyRoom valueRoom table degrees xors queue edges verts marks seen answer
-
--- both for the compact build
-pub record NoCompact (keyRoom table occupancy degrees xors queue edges verts marks answer : List ℕ) (number : ℕ) (keyRoom′ table′ occupancy′ degrees′ xors′ queue′ edges′ verts′ marks′ answer′ : List ℕ) : Type 0 where
-  pub number-is : number ≡ 14
-  pub key-room-is : keyRoom′ ≡ keyRoom
-  pub table-is : table′ ≡ table
-  pub occupancy-is : occupancy′ ≡ occupancy
-  pub degrees-are : degrees′ ≡ degrees
-  pub xors-are : xors′ ≡ xors
-  pub queue-is : queue′ ≡ queue
-  pub edges-are : edges′ ≡ edges
-  pub verts-are : verts′ ≡ verts
-  pub marks-are : marks′ ≡ marks
-  pub answer-is : answer′ ≡ answer
-
-pub record SomeCompact (bytes keyRoom table occupancy degrees xors queue edges verts marks answer : List ℕ) (number : ℕ) (keyRoom′ table′ occupancy′ degrees′ xors′ queue′ edges′ verts′ marks′ answer′ : List ℕ) : Type 0 where
+pub record ToldCompact (keys table occupancy degrees xors queue : List ℕ) (order : List Pair) (marks answer table′ occupancy′ degrees′ xors′ queue′ : List ℕ) (order′ : List Pair) (marks′ answer′ : List ℕ) : Type 0 where
   pub built : Built
-  pub is-built : BuiltCompact (keysIn bytes) table occupancy degrees xors queue edges verts marks built table′ occupancy′ degrees′ xors′ queue′ edges′ verts′ marks′
-  pub number-is : number ≡ built .no
-  pub key-room-is : keyRoom′ ≡ over (keysIn bytes) keyRoom
-  pub answer-is : answer′ ≡ over (fieldsOf (built .index)) answer
-
-abbrev pub CompactIf : Bool → List ℕ → List ℕ → List ℕ → List ℕ → List ℕ → List ℕ → List ℕ → List ℕ → List ℕ → List ℕ → List ℕ → ℕ → List ℕ → List ℕ → List ℕ → List ℕ → List ℕ → List ℕ → List ℕ → List ℕ → List ℕ → List ℕ → Type 0
-CompactIf true bytes = NoCompact
-CompactIf false bytes = SomeCompact bytes
-
-abbrev pub ToldCompact : List ℕ → List ℕ → List ℕ → List ℕ → List ℕ → List ℕ → List ℕ → List ℕ → List ℕ → List ℕ → List ℕ → ℕ → List ℕ → List ℕ → List ℕ → List ℕ → List ℕ → List ℕ → List ℕ → List ℕ → List ℕ → List ℕ → Type 0
-ToldCompact bytes keyRoom table occupancy degrees xors queue edges verts marks answer =
-    CompactIf (lacksCompact bytes keyRoom answer) bytes keyRoom table occupancy degrees xors queue edges verts marks answer
+  pub is-built : BuiltCompact keys table occupancy degrees xors queue order marks built table′ occupancy′ degrees′ xors′ queue′ order′ marks′
+  pub answer-is : answer′ ≡ toldBuilt built answer

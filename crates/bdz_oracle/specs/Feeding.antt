@@ -13,8 +13,7 @@ use Rattle.bdz_table.specs.declared.index.Index.{Index}
 use Rattle.bdz_image.specs.Feeding.{startNo, orderOf, pagesOf, freshSlots, begun, feedOf}
 use Rattle.bdz_image.specs.Pages.{padded}
 use Rattle.bdz_image.specs.declared.feed.Feed.{Feed}
-use Rattle.bdz_oracle.specs.Building.{keysIn}
-use Rattle.bdz_oracle.specs.Imaging.{Told}
+use Rattle.bdz_oracle.specs.Building.{keysIn, Told}
 use Rattle.bdz_oracle.specs.Keys.{kindOf, keyCount}
 
 -- an index from all its numbers

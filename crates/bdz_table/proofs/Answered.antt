@@ -27,6 +27,7 @@ use Rattle.bdz_table.specs.Values.{valuesNo}
 use Rattle.bdz_table.specs.declared.index.Built.{Built}
 use Rattle.bdz_table.specs.declared.index.Index.{Index}
 use Rattle.bdz_table.specs.declared.needs.Lengths.{Lengths}
+use Rattle.bdz_table.specs.declared.pairs.Pair.{Pair}
 use Rattle.bdz_table.proofs.Begun.{assigned-passed, compact-passed, length-assigned, length-compact, length-occupied, empty-compact}
 use Rattle.bdz_table.proofs.Bits.{occupancy-front, tab-at}
 use Rattle.bdz_table.proofs.Counting.{graph-few}
@@ -228,13 +229,13 @@ assigned-fits keys values modulus rest occ supers lent ok h =
     }
 
 -- an accepted assigned build, and a lookup after it
-pub assigned-answered : {keys values : List ℕ} {modulus : ℕ} {table degrees xors queue edges verts marks seen : List ℕ} {r : Built} {table′ degrees′ xors′ queue′ edges′ verts′ marks′ seen′ : List ℕ}
-    → BuiltAssigned keys values modulus table degrees xors queue edges verts marks seen r table′ degrees′ xors′ queue′ edges′ verts′ marks′ seen′ → r .no ≡ 0
+pub assigned-answered : {keys values : List ℕ} {modulus : ℕ} {table degrees xors queue : List ℕ} {order : List Pair} {marks seen : List ℕ} {r : Built} {table′ degrees′ xors′ queue′ : List ℕ} {order′ : List Pair} {marks′ seen′ : List ℕ}
+    → BuiltAssigned keys values modulus table degrees xors queue order marks seen r table′ degrees′ xors′ queue′ order′ marks′ seen′ → r .no ≡ 0
     → {asked occ supers out out′ : List ℕ} {number : ℕ} → LookedUp (r .index) asked table′ occ supers out number out′ → length asked ≤ length out
     → Answered keys (λ e. getD values e 0) asked number out′
 unfolding indexFor
-assigned-answered {keys} {values} {modulus} {table} {degrees} {xors} {queue} {edges} {verts} {marks} {seen} {r} {table′} b z {asked} {occ} {supers} {out} {out′} {number} u l =
-    let lent = lengthsOf table degrees xors queue edges verts marks [] seen in
+assigned-answered {keys} {values} {modulus} {table} {degrees} {xors} {queue} {order} {marks} {seen} {r} {table′} b z {asked} {occ} {supers} {out} {out′} {number} u l =
+    let lent = lengthsOf table degrees xors queue order marks [] seen in
     let index = indexFor Assigned keys modulus in
     let words = assignedTable keys values modulus in
     let rest = drop (length words) table in
@@ -281,13 +282,13 @@ pub record CompactAnswered (keys : List ℕ) (index : Index) (table occ supers :
   pub answers : {asked out out′ : List ℕ} {number : ℕ} → LookedUp index asked table occ supers out number out′ → length asked ≤ length out → Answered keys slot asked number out′
 
 -- an accepted compact build, the super counts of its occupancy, and lookups after them
-pub compact-answered : {keys table occupancy degrees xors queue edges verts marks : List ℕ} {r : Built} {table′ occupancy′ degrees′ xors′ queue′ edges′ verts′ marks′ : List ℕ}
-    → BuiltCompact keys table occupancy degrees xors queue edges verts marks r table′ occupancy′ degrees′ xors′ queue′ edges′ verts′ marks′ → r .no ≡ 0
+pub compact-answered : {keys table occupancy degrees xors queue : List ℕ} {order : List Pair} {marks : List ℕ} {r : Built} {table′ occupancy′ degrees′ xors′ queue′ : List ℕ} {order′ : List Pair} {marks′ : List ℕ}
+    → BuiltCompact keys table occupancy degrees xors queue order marks r table′ occupancy′ degrees′ xors′ queue′ order′ marks′ → r .no ≡ 0
     → {supers supers′ : List ℕ} {counted : ℕ} → SuperCounted (r .index .m) occupancy′ supers counted supers′ → superCount (r .index .m) ≤ length supers
     → CompactAnswered keys (r .index) table′ occupancy′ supers′ counted
 unfolding indexFor
-compact-answered {keys} {table} {occupancy} {degrees} {xors} {queue} {edges} {verts} {marks} {r} {table′} {occupancy′} b z {supers} {supers′} {counted} s l =
-    let lent = lengthsOf table degrees xors queue edges verts marks occupancy [] in
+compact-answered {keys} {table} {occupancy} {degrees} {xors} {queue} {order} {marks} {r} {table′} {occupancy′} b z {supers} {supers′} {counted} s l =
+    let lent = lengthsOf table degrees xors queue order marks occupancy [] in
     let index = indexFor Compact keys (length keys) in
     let m = verticesFor Compact (length keys) in
     let words = compactTable keys in

@@ -17,12 +17,13 @@ use Rattle.bdz_base.specs.Sizes.{occupancyBytes}
 use Rattle.bdz_base.specs.declared.verts.Kind.{Kind}
 use Rattle.bdz_base.specs.declared.verts.Kind.the-variants.{Assigned, Compact}
 use Rattle.bdz_table.specs.Assign.{assign}
-use Rattle.bdz_table.specs.Build.{verticesFor, needsOf, lacksRoom, assignedEarly, compactEarly, begun, lateNo, buildNo, seedFor, widthFor, indexFor, refusedBuild, builtFor, BuiltTo, wordsFor, assignedTable, compactTable, compactOccupancy, lengthsOf}
+use Rattle.bdz_table.specs.Build.{verticesFor, needsOf, lacksRoom, assignedEarly, compactEarly, begun, lateNo, buildNo, seedFor, widthFor, indexFor, refusedBuild, builtFor, wordsFor, assignedTable, compactTable, compactOccupancy, lengthsWith}
 use Rattle.bdz_table.specs.Graph.{has}
 use Rattle.bdz_table.specs.Peel.{Cut}
-use Rattle.bdz_table.specs.Steps.{Shaped, RanTo, newIf}
+use Rattle.bdz_table.specs.Steps.{Shaped, RanTo, newIf, Used, ReadyTo, untouchedOf}
 use Rattle.bdz_table.specs.Values.{valuesNo}
 use Rattle.bdz_table.specs.declared.build.Ran.{Ran}
+use Rattle.bdz_table.specs.declared.index.Built.{Built}
 use Rattle.bdz_table.specs.declared.index.Needs.{Needs}
 use Rattle.bdz_table.specs.declared.needs.Lengths.{Lengths}
 use Rattle.bdz_table.proofs.Bits.{length-occupancy}
@@ -54,8 +55,7 @@ pub record Room (need : Needs) (lent : Lengths) : Type 0 where
   pub degrees : need .vertices ≤ lent .degrees
   pub xors : need .vertices ≤ lent .xors
   pub queue : need .vertices ≤ lent .queue
-  pub edges : need .order ≤ lent .edges
-  pub verts : need .order ≤ lent .verts
+  pub order : need .order ≤ lent .order
   pub marks : need .vertices ≤ lent .marks
   pub occupancy : need .occupancy ≤ lent .occupancy
   pub seen : need .seen ≤ lent .seen
@@ -70,17 +70,15 @@ room-of need lent e =
     let f = or-none _ _ (d .1) in
     let g = or-none _ _ (f .1) in
     let h = or-none _ _ (g .1) in
-    let i = or-none _ _ (h .1) in
     record {
       table = ltb-false _ _ (a .0);
       degrees = ltb-false _ _ (b .0);
       xors = ltb-false _ _ (c .0);
       queue = ltb-false _ _ (d .0);
-      edges = ltb-false _ _ (f .0);
-      verts = ltb-false _ _ (g .0);
-      marks = ltb-false _ _ (h .0);
-      occupancy = ltb-false _ _ (i .0);
-      seen = ltb-false _ _ (i .1);
+      order = ltb-false _ _ (f .0);
+      marks = ltb-false _ _ (g .0);
+      occupancy = ltb-false _ _ (h .0);
+      seen = ltb-false _ _ (h .1);
     }
 
 pub record Passed (kind : Kind) (n modulus : ℕ) (lent : Lengths) : Type 0 where
@@ -140,12 +138,12 @@ pub need-occupancy : (n modulus : ℕ) → needsOf Compact n modulus .occupancy 
 unfolding needsOf
 need-occupancy n modulus = refl
 
-module _ (kind : Kind) (keys : List ℕ) (modulus : ℕ) (table ds xs q edges verts ms occ seen : List ℕ) (some : 1 ≤ length keys)
-    (p : Passed kind (length keys) modulus (lengthsOf table ds xs q edges verts ms occ seen)) where
+module _ (kind : Kind) (keys : List ℕ) (modulus : ℕ) (table ds xs q : List ℕ) (order : ℕ) (ms occ seen : List ℕ) (some : 1 ≤ length keys)
+    (p : Passed kind (length keys) modulus (lengthsWith table ds xs q order ms occ seen)) where
   abbrev need : Needs
   need = needsOf kind (length keys) modulus
 
-  pub shaped : Shaped kind keys (need .table) (take (need .table) table) (take (need .vertices) ds) (take (need .vertices) xs) (take (need .vertices) q) (take (need .order) edges) (take (need .order) verts) (take (need .vertices) ms)
+  pub shaped : Shaped kind keys (need .table) (take (need .table) table) (take (need .vertices) ds) (take (need .vertices) xs) (take (need .vertices) q) (take (need .vertices) ms)
   shaped =
       record {
         some = some;
@@ -154,28 +152,22 @@ module _ (kind : Kind) (keys : List ℕ) (modulus : ℕ) (table ds xs q edges ve
         many = λ h.
             let t = need-table kind (length keys) modulus in
             let v = need-vertices kind (length keys) modulus h in
-            let o = need-order kind (length keys) modulus h in
             record {
               count = h;
               is = t;
               longt = longt;
               longm = length-take-le _ ms (p .room .marks) ∙ v ∙ sym t;
-              orderable =
+              lent =
                   record {
-                    lent =
+                    sizes =
                         record {
-                          sizes =
-                              record {
-                                keys = p .few;
-                                some = omega (arith, vertices-more kind (length keys) h, t);
-                                few = omega (arith, vertices-fit kind (length keys) (p .few), t);
-                              };
-                          longd = length-take-le _ ds (p .room .degrees) ∙ v ∙ sym t;
-                          longx = length-take-le _ xs (p .room .xors) ∙ v ∙ sym t;
-                          longq = length-take-le _ q (p .room .queue) ∙ v ∙ sym t;
+                          keys = p .few;
+                          some = omega (arith, vertices-more kind (length keys) h, t);
+                          few = omega (arith, vertices-fit kind (length keys) (p .few), t);
                         };
-                    longe = length-take-le _ edges (p .room .edges) ∙ o;
-                    longv = length-take-le _ verts (p .room .verts) ∙ o;
+                    longd = length-take-le _ ds (p .room .degrees) ∙ v ∙ sym t;
+                    longx = length-take-le _ xs (p .room .xors) ∙ v ∙ sym t;
+                    longq = length-take-le _ q (p .room .queue) ∙ v ∙ sym t;
                   };
             };
       }
@@ -184,10 +176,10 @@ module _ (kind : Kind) (keys : List ℕ) (modulus : ℕ) (table ds xs q edges ve
       longt = length-take-le _ table (p .room .table)
 
   -- the same of the needs as a call answered them
-  pub shaped-at : {needed : Needs} → needed ≡ need → Shaped kind keys (needed .table) (take (needed .table) table) (take (needed .vertices) ds) (take (needed .vertices) xs) (take (needed .vertices) q) (take (needed .order) edges) (take (needed .order) verts) (take (needed .vertices) ms)
+  pub shaped-at : {needed : Needs} → needed ≡ need → Shaped kind keys (needed .table) (take (needed .table) table) (take (needed .vertices) ds) (take (needed .vertices) xs) (take (needed .vertices) q) (take (needed .vertices) ms)
   shaped-at e = rw e shaped
 
-  pub room-at : {needed : Needs} → needed ≡ need → Room needed (lengthsOf table ds xs q edges verts ms occ seen)
+  pub room-at : {needed : Needs} → needed ≡ need → Room needed (lengthsWith table ds xs q order ms occ seen)
   room-at e = rw e (p .room)
 
 -- ---- what the parts hold, in the whole
@@ -262,38 +254,6 @@ values-below modulus earlier (x ∷ xs) e (suc i) l =
 pub same-part : (x : ℕ) (s last : List ℕ) → x ≤ length s → length last ≡ length (take x s) → length (last ++ drop x s) ≡ length s
 same-part x s last h e = rw (length-append, e, length-drop) (omega (arith, length-take-le x s h))
 
--- ---- a build that touches nothing
-
-module _ (kind : Kind) (keys : List ℕ) (early verdict modulus : ℕ) (need : Needs) (words table ds xs q edges verts ms : List ℕ) where
-  -- an early refusal
-  pub refused-early : eqb early 0 ≡ false → BuiltTo (buildNo kind keys early verdict) (begun (length keys) early) (indexFor kind keys modulus) need words table ds xs q edges verts ms (refusedBuild early) table ds xs q edges verts ms
-  refused-early h =
-      record {
-        answer-is = simp h;
-        table-is = simp h;
-        degrees-are = simp h;
-        xors-are = simp h;
-        queue-is = simp h;
-        edges-are = simp h;
-        verts-are = simp h;
-        marks-are = simp h;
-      }
-
-  -- an empty build
-  pub built-empty : (given : ℕ) → given ≡ modulus → early ≡ 0 → length keys ≡ 0 → words ≡ [] → BuiltTo (buildNo kind keys early verdict) (begun (length keys) early) (indexFor kind keys modulus) need words table ds xs q edges verts ms (builtFor 0 (record { kind = kind; n = 0; m = 0; seed = 0; modulus = given; width = widthFor kind given })) table ds xs q edges verts ms
-  unfolding indexFor verticesFor seedFor
-  built-empty given g e l w =
-      record {
-        answer-is = simp (e, l, g);
-        table-is = simp (e, l, w);
-        degrees-are = simp (e, l);
-        xors-are = simp (e, l);
-        queue-is = simp (e, l);
-        edges-are = simp (e, l);
-        verts-are = simp (e, l);
-        marks-are = simp (e, l);
-      }
-
 pub not-begun-refused : (n early : ℕ) → eqb early 0 ≡ false → begun n early ≡ false
 not-begun-refused n early h = simp h
 
@@ -303,6 +263,43 @@ not-begun-empty n early h = go (eqb early 0)
     go : (b : Bool) → (b && not (eqb n 0)) ≡ false
     go true = simp h
     go false = refl
+
+-- ---- a build that touches nothing
+
+unused : (s : List ℕ) → Used 0 s s
+unused s = record { room = omega arith; long = refl; behind = refl }
+
+module _ (kind : Kind) (keys : List ℕ) (early verdict modulus : ℕ) (need : Needs) (order : ℕ) (words table ds xs q ms : List ℕ) where
+  untouched : {built : Built} → built ≡ builtFor (buildNo kind keys early verdict) (indexFor kind keys modulus) → begun (length keys) early ≡ false → table ≡ written (buildNo kind keys early verdict) words table
+      → ReadyTo kind keys (buildNo kind keys early verdict) (begun (length keys) early) (indexFor kind keys modulus) need order words table ds xs q ms (untouchedOf built) table ds xs q ms
+  untouched e b t =
+      record {
+        answer-is = e;
+        vertices-is = rw b;
+        order-is = rw b;
+        order-room = omega arith;
+        order-fits = omega arith;
+        degrees = unused ds;
+        xors = unused xs;
+        queue = unused q;
+        marks = unused ms;
+        pending = λ some. absurd (omega arith);
+        done = λ none. t;
+      }
+
+  -- an early refusal
+  pub refused-early : {built : Built} → built ≡ refusedBuild early → eqb early 0 ≡ false
+      → ReadyTo kind keys (buildNo kind keys early verdict) (begun (length keys) early) (indexFor kind keys modulus) need order words table ds xs q ms (untouchedOf built) table ds xs q ms
+  refused-early e h = untouched (e ∙ simp h) (not-begun-refused (length keys) early h) (simp h)
+
+  -- an empty build
+  empty-answer : (given : ℕ) → given ≡ modulus → early ≡ 0 → length keys ≡ 0 → builtFor 0 (record { kind = kind; n = 0; m = 0; seed = 0; modulus = given; width = widthFor kind given }) ≡ builtFor (buildNo kind keys early verdict) (indexFor kind keys modulus)
+  unfolding indexFor verticesFor seedFor
+  empty-answer given g e l = simp (e, l, g)
+
+  pub built-empty : {built : Built} (given : ℕ) → built ≡ builtFor 0 (record { kind = kind; n = 0; m = 0; seed = 0; modulus = given; width = widthFor kind given }) → given ≡ modulus → early ≡ 0 → length keys ≡ 0 → words ≡ []
+      → ReadyTo kind keys (buildNo kind keys early verdict) (begun (length keys) early) (indexFor kind keys modulus) need order words table ds xs q ms (untouchedOf built) table ds xs q ms
+  built-empty given b g e l w = untouched (b ∙ empty-answer given g e l) (not-begun-empty (length keys) early l) (simp (e, l, w))
 
 pub empty-assigned : (keys values : List ℕ) (modulus : ℕ) → length keys ≡ 0 → assignedTable keys values modulus ≡ []
 unfolding assignedTable

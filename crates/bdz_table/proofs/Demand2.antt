@@ -23,6 +23,7 @@ use Rattle.bdz_table.specs.Values.{valuesNo}
 use Rattle.bdz_table.specs.declared.index.Index.{Index}
 use Rattle.bdz_table.specs.declared.index.Built.{Built}
 use Rattle.bdz_table.specs.declared.needs.Lengths.{Lengths}
+use Rattle.bdz_table.specs.declared.pairs.Pair.{Pair}
 use Rattle.bdz_table.proofs.Core.{cut-of, degree-on}
 use Rattle.bdz_table.proofs.Counting.{graph-of}
 use Rattle.bdz_table.proofs.Fold.{clash}
@@ -163,21 +164,21 @@ number-is number index r e = ap (λ (b : Built). b .no) e ∙ go (eqb number 0) 
     go true q = rw q (sym (eqb-true number 0 q))
     go false q = rw q
 
-module _ (keys values : List ℕ) (modulus : ℕ) (table ds xs q edges verts ms seen : List ℕ) (r : Built) (table′ ds′ xs′ q′ edges′ verts′ ms′ seen′ : List ℕ) where
+module _ (keys values : List ℕ) (modulus : ℕ) (table ds xs q : List ℕ) (order : List Pair) (ms seen : List ℕ) (r : Built) (table′ ds′ xs′ q′ : List ℕ) (order′ : List Pair) (ms′ seen′ : List ℕ) where
   -- whatever an assigned build is given
-  pub assigned-demand-2 : BuiltAssigned keys values modulus table ds xs q edges verts ms seen r table′ ds′ xs′ q′ edges′ verts′ ms′ seen′
-      → (r .no ≡ 5) ↔ ((assignedEarly (length keys) (length values) modulus (lengthsOf table ds xs q edges verts ms [] seen) ≡ 0) × (valuesNo modulus [] values ≡ 0) × EachFails Assigned keys (verticesFor Assigned (length keys)))
+  pub assigned-demand-2 : BuiltAssigned keys values modulus table ds xs q order ms seen r table′ ds′ xs′ q′ order′ ms′ seen′
+      → (r .no ≡ 5) ↔ ((assignedEarly (length keys) (length values) modulus (lengthsOf table ds xs q order ms [] seen) ≡ 0) × (valuesNo modulus [] values ≡ 0) × EachFails Assigned keys (verticesFor Assigned (length keys)))
   assigned-demand-2 b =
-      let early = assignedEarly (length keys) (length values) modulus (lengthsOf table ds xs q edges verts ms [] seen) in
+      let early = assignedEarly (length keys) (length values) modulus (lengthsOf table ds xs q order ms [] seen) in
       let n = number-is (buildNo Assigned keys early (valuesNo modulus [] values)) (indexFor Assigned keys modulus) r (b .to .answer-is) in
       rw n (five-iff Assigned keys early (valuesNo modulus [] values) (assigned-not _ _ _ _) (values-not modulus [] values))
 
-module _ (keys table occ ds xs q edges verts ms : List ℕ) (r : Built) (table′ occ′ ds′ xs′ q′ edges′ verts′ ms′ : List ℕ) where
+module _ (keys table occ ds xs q : List ℕ) (order : List Pair) (ms : List ℕ) (r : Built) (table′ occ′ ds′ xs′ q′ : List ℕ) (order′ : List Pair) (ms′ : List ℕ) where
   -- and a compact one
-  pub compact-demand-2 : BuiltCompact keys table occ ds xs q edges verts ms r table′ occ′ ds′ xs′ q′ edges′ verts′ ms′
-      → (r .no ≡ 5) ↔ ((compactEarly (length keys) (lengthsOf table ds xs q edges verts ms occ []) ≡ 0) × EachFails Compact keys (verticesFor Compact (length keys)))
+  pub compact-demand-2 : BuiltCompact keys table occ ds xs q order ms r table′ occ′ ds′ xs′ q′ order′ ms′
+      → (r .no ≡ 5) ↔ ((compactEarly (length keys) (lengthsOf table ds xs q order ms occ []) ≡ 0) × EachFails Compact keys (verticesFor Compact (length keys)))
   compact-demand-2 b =
-      let early = compactEarly (length keys) (lengthsOf table ds xs q edges verts ms occ []) in
+      let early = compactEarly (length keys) (lengthsOf table ds xs q order ms occ []) in
       let f = five-iff Compact keys early 0 (compact-not _ _) zero-not in
       let n = number-is (buildNo Compact keys early 0) (indexFor Compact keys (length keys)) r (b .to .answer-is) in
       rw n (λ e. let g = f .0 e in (g .0, g .2), λ g. f .1 (g .0, refl, g .1))

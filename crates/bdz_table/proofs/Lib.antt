@@ -1,6 +1,7 @@
 pub mod AddKey
 pub mod Answered
 pub mod Answers
+pub mod Assembling
 pub mod Assigned
 pub mod Begun
 pub mod Bits
@@ -12,6 +13,9 @@ pub mod Found
 pub mod Has
 pub mod Judging
 pub mod Leaving
+pub mod LendAgain
+pub mod LendLocal
+pub mod LendShared
 pub mod Mapped
 pub mod NeedLaws
 pub mod Noting
@@ -20,12 +24,16 @@ pub mod OneAnswer
 pub mod Ones
 pub mod Order
 pub mod Ordering
+pub mod Owning
+pub mod Pairing
 pub mod Passed
 pub mod Queue
 pub mod Ranks
+pub mod Readying
 pub mod Runs
 pub mod Tries
 pub mod Turning
 pub mod Views
+pub mod Walking
 pub mod Words
 pub mod Zeroing

@@ -1,4 +1,4 @@
--- From an order of the keys to the table and the occupancy, and what a run comes to. Assumes nothing.
+-- What a run comes to, and its table and occupancy. Assumes nothing.
 use Prim.Native.Nat.{ℕ, zero, _+_, _*_, _/_, _^_, _<_, _≤_}
 use mathlib.Core.Path.{_≡_, refl, sym, ap, _∙_}
 use mathlib.Core.Bool.{Bool, true, false, cond}
@@ -9,13 +9,12 @@ use lib.Dec.{eqb, ltb}
 use lib.ListN.{length, getD, set, replicate, length-replicate}
 use Rattle.bdz_base.specs.declared.verts.Kind.{Kind}
 use Rattle.bdz_base.specs.declared.verts.Kind.the-variants.{Assigned, Compact}
-use Rattle.bdz_table.specs.Assign.{assign, partOf}
+use Rattle.bdz_table.specs.Assign.{partOf}
 use Rattle.bdz_table.specs.Build.{verticesFor, stuck, lateNo, seedFor, cutsFor, wordsFor, assignedTable, compactTable, compactOccupancy}
 use Rattle.bdz_table.specs.Occupancy.{occupancyOf}
-use Rattle.bdz_table.specs.Keys.{graphOf}
-use Rattle.bdz_table.specs.Peel.{Cut, atsOf}
+use Rattle.bdz_table.specs.Peel.{atsOf}
 use Rattle.bdz_table.specs.Seeds.{worksAt, firstSeed}
-use Rattle.bdz_table.specs.Steps.{orderOf, Marked, Ordered, KeysOrdered, RanTo, newIf, Cleared}
+use Rattle.bdz_table.specs.Steps.{Marked, SeedAnswer, RanTo, newIf}
 use Rattle.bdz_table.specs.declared.seeds.Found.{Found}
 use Rattle.bdz_table.proofs.Tries.{first-is}
 use Rattle.bdz_table.proofs.Zeroing.{replicate-zero}
@@ -40,58 +39,43 @@ part-below m v = go (ltb v (m / 3)) (ltb v (2 * (m / 3)))
     go false true = omega arith
     go false false = omega arith
 
-module _ (kind : Kind) (keys : List ℕ) (m : ℕ) {edges verts : List ℕ} {r : Found} (o : KeysOrdered kind keys m edges verts r) where
-  module _ (l : r .tries < 256) (M : ℕ) (val : Cut → ℕ) {ms g : List ℕ} (marked : Marked M ms g) (longg : length g ≡ m)
-      (longe : length edges ≡ length keys) (longv : length verts ≡ length keys) where
-    pub ordered : ((i : ℕ) → i < length keys → val (record { key = getD edges i 0; at = getD verts i 0 }) < M) → Ordered (length keys) m M val edges verts ms g
-    ordered b =
-        record { longe = longe; longv = longv; longg = longg; keys = o .keys-inside l; vertices = o .vertices-inside l; values = b; marked = marked }
+-- ---- what a run comes to
 
-  -- ---- and give what the definitions say
+module _ (kind : Kind) (keys : List ℕ) (m : ℕ) {xs q : List ℕ} {r : Found} (a : SeedAnswer kind keys m xs q r) (many : 2 ≤ length keys) (is : m ≡ verticesFor kind (length keys)) where
+  first : r .tries ≡ firstSeed kind keys (verticesFor kind (length keys))
+  first = a .tries-is ∙ ap (firstSeed kind keys) is
 
-  module _ (many : 2 ≤ length keys) (is : m ≡ verticesFor kind (length keys)) where
-    first : r .tries ≡ firstSeed kind keys (verticesFor kind (length keys))
-    first = o .tries-is ∙ ap (firstSeed kind keys) is
+  stuck-is : stuck kind keys ≡ eqb (r .tries) 256
+  unfolding stuck
+  stuck-is = rw (lt-ltb 1 (length keys) many, ← first)
 
-    stuck-is : stuck kind keys ≡ eqb (r .tries) 256
-    unfolding stuck
-    stuck-is = rw (lt-ltb 1 (length keys) many, ← first)
+  -- none of the seeds works
+  pub ran-stuck : 256 ≤ r .tries → RanTo kind keys 0 (record { no = 5; seed = 0; pairs = 0 })
+  unfolding lateNo firstSeed
+  ran-stuck l =
+      let f : firstSeed kind keys m ≤ 0 + 256 = first-is (worksAt kind keys m) 256 0 .limit in
+      let e : r .tries ≡ 256 = omega (arith, a .tries-is) in
+      record { no-is = simp (stuck-is, eq-eqb _ _ e); seed-is = λ h. absurd (omega arith) }
 
-    -- none of the seeds works
-    pub ran-stuck : 256 ≤ r .tries → RanTo kind keys 0 (record { no = 5; seed = 0 })
-    unfolding lateNo firstSeed
-    ran-stuck l =
-        let f : firstSeed kind keys m ≤ 0 + 256 = first-is (worksAt kind keys m) 256 0 .limit in
-        let e : r .tries ≡ 256 = omega (arith, o .tries-is) in
-        record { no-is = simp (stuck-is, eq-eqb _ _ e); seed-is = λ h. absurd (omega arith) }
+  module _ (l : r .tries < 256) where
+    pub seed-found : r .seed ≡ seedFor kind keys
+    unfolding seedFor
+    seed-found = a .seed-is l ∙ rw (ne-eqb (length keys) 0 (omega arith), ne-eqb (length keys) 1 (omega arith), first)
 
-    module _ (l : r .tries < 256) where
-      seed-is : r .seed ≡ seedFor kind keys
-      unfolding seedFor
-      seed-is = o .seed-is l ∙ rw (ne-eqb (length keys) 0 (omega arith), ne-eqb (length keys) 1 (omega arith), first)
-
-      pub ran-found : RanTo kind keys 0 (record { no = 0; seed = r .seed })
-      unfolding lateNo
-      ran-found = record { no-is = simp (stuck-is, ne-eqb (r .tries) 256 (omega arith)); seed-is = λ h. seed-is }
-
-      pub cuts-are : orderOf edges verts (length keys) ≡ cutsFor kind keys
-      unfolding cutsFor
-      cuts-are = o .order l ∙ rw (is, ← o .seed-is l, seed-is)
-
-      pub words-are : (M : ℕ) (val : Cut → ℕ) → assign (graphOf kind keys (r .seed) m) M val (orderOf edges verts (length keys)) (replicate m 0) ≡ wordsFor kind keys M val
-      unfolding wordsFor
-      words-are M val = rw (cuts-are, seed-is, is)
+    pub ran-found : RanTo kind keys 0 (record { no = 0; seed = r .seed; pairs = length keys })
+    unfolding lateNo
+    ran-found = record { no-is = simp (stuck-is, ne-eqb (r .tries) 256 (omega arith)); seed-is = λ h. seed-found }
 
 -- ---- refused values, one key, and more
 
-pub ran-refused : (kind : Kind) (keys : List ℕ) (verdict : ℕ) → (verdict ≡ 0 → ⊥) → RanTo kind keys verdict (record { no = verdict; seed = 0 })
+pub ran-refused : (kind : Kind) (keys : List ℕ) (verdict : ℕ) → (verdict ≡ 0 → ⊥) → RanTo kind keys verdict (record { no = verdict; seed = 0; pairs = 0 })
 unfolding lateNo
 ran-refused kind keys verdict h = record { no-is = simp (ne-eqb verdict 0 h); seed-is = λ e. absurd (h e) }
 
 pub old-stays : (number : ℕ) (new old : List ℕ) → (number ≡ 0 → ⊥) → old ≡ newIf number new old
 old-stays number new old h = simp (ne-eqb number 0 h)
 
-pub ran-one : (kind : Kind) (keys : List ℕ) → length keys ≡ 1 → RanTo kind keys 0 (record { no = 0; seed = 1 })
+pub ran-one : (kind : Kind) (keys : List ℕ) → length keys ≡ 1 → RanTo kind keys 0 (record { no = 0; seed = 1; pairs = 0 })
 unfolding lateNo stuck seedFor
 ran-one kind keys e = record { no-is = rw e; seed-is = λ h. rw e }
 
@@ -123,15 +107,3 @@ many-compact-table keys m h e = rw (ne-eqb (length keys) 0 (omega arith), ne-eqb
 pub many-occupancy : (keys : List ℕ) (m : ℕ) → 2 ≤ length keys → m ≡ verticesFor Compact (length keys) → compactOccupancy keys ≡ occupancyOf m (atsOf (cutsFor Compact keys))
 unfolding compactOccupancy
 many-occupancy keys m h e = rw (ne-eqb (length keys) 0 (omega arith), ne-eqb (length keys) 1 (omega arith), e)
-
--- what was cleared is as long as it was before the run
-pub cleared-before : {ds xs q edges verts ms ds₁ xs₁ q₁ edges₁ verts₁ ms₁ ds′ xs′ q′ edges′ verts′ ms′ : List ℕ} → Cleared ds₁ xs₁ q₁ edges₁ verts₁ ms₁ ds′ xs′ q′ edges′ verts′ ms′ → length ds₁ ≡ length ds → length xs₁ ≡ length xs → length q₁ ≡ length q → length edges₁ ≡ length edges → length verts₁ ≡ length verts → length ms₁ ≡ length ms → Cleared ds xs q edges verts ms ds′ xs′ q′ edges′ verts′ ms′
-cleared-before c a b d e f g =
-    record {
-      degrees = c .degrees ∙ ap (λ (k : ℕ). replicate k 0) a;
-      xors = c .xors ∙ ap (λ (k : ℕ). replicate k 0) b;
-      queue = c .queue ∙ ap (λ (k : ℕ). replicate k 0) d;
-      edge-list = c .edge-list ∙ ap (λ (k : ℕ). replicate k 0) e;
-      vertex-list = c .vertex-list ∙ ap (λ (k : ℕ). replicate k 0) f;
-      marks = c .marks ∙ ap (λ (k : ℕ). replicate k 0) g;
-    }

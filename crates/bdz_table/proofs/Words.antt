@@ -1,5 +1,5 @@
 -- Summing words, and assigning them from the newest cut to the oldest. Assumes nothing.
-use Prim.Native.Nat.{ℕ, zero, suc, _+_, _-_, _*_, _%_, _<_, _≤_}
+use Prim.Native.Nat.{ℕ, zero, _+_, _-_, _*_, _%_, _<_, _≤_}
 use mathlib.Core.Path.{_≡_, refl, sym, ap, ap₂, _∙_}
 use mathlib.Core.Logic.{⊎-elim}
 use mathlib.Core.Bool.{true}
@@ -16,9 +16,8 @@ use Rattle.bdz_base.specs.declared.verts.Kind.{Kind}
 use Rattle.bdz_base.proofs.VertexLaws.{vertices-below}
 use Rattle.bdz_table.specs.Graph.{has}
 use Rattle.bdz_table.specs.Keys.{listed}
-use Rattle.bdz_table.specs.Peel.{Cut}
-use Rattle.bdz_table.specs.Assign.{sumAt, wordFor, assign}
-use Rattle.bdz_table.specs.Steps.{orderOf, Marked, Reach, Word, Ordered}
+use Rattle.bdz_table.specs.Assign.{sumAt, wordFor}
+use Rattle.bdz_table.specs.Steps.{Marked, Reach, Word}
 use Rattle.bdz_table.proofs.Has.{known, has-head, has-tail}
 use Rattle.bdz_table.proofs.Counting.{three-inside}
 use Rattle.bdz_table.proofs.AddKey.{has-getD}
@@ -95,51 +94,3 @@ marked-more M ms g v w a l h =
 pub word-of : (M x v s : ℕ) (us ms g : List ℕ) → s ≡ sumAt g us → Word M x v us ms g (set ms v 1) (set g v ((x + M - s % M) % M))
 unfolding wordFor
 word-of M x v s us ms g h = record { words = ap (λ (y : ℕ). set g v ((x + M - y % M) % M)) h; marks = refl }
-
--- ---- the loop
-
-pub record Assigning (vs : ℕ → List ℕ) (n m M : ℕ) (val : Cut → ℕ) (edges verts g₀ ms g : List ℕ) (i : ℕ) : Type 0 where
-  pub upto : i ≤ n
-  pub longg : length g ≡ m
-  pub marked : Marked M ms g
-  pub same : assign vs M val (orderOf edges verts i) g ≡ assign vs M val (orderOf edges verts n) g₀
-
-module _ (vs : ℕ → List ℕ) (n m M : ℕ) (val : Cut → ℕ) (edges verts ms₀ g₀ : List ℕ) (o : Ordered n m M val edges verts ms₀ g₀) where
-  pub assigning-none : Assigning vs n m M val edges verts g₀ ms₀ g₀ n
-  assigning-none = record { upto = omega arith; longg = o .longg; marked = o .marked; same = refl }
-
-  module _ (ms g : List ℕ) (i : ℕ) (a : Assigning vs n m M val edges verts g₀ ms g i) where
-    pub assigning-all : i ≤ 0 → g ≡ assign vs M val (orderOf edges verts n) g₀
-    unfolding orderOf assign
-    assigning-all h =
-        let e : i ≡ 0 = omega arith in
-        sym (ap (λ (x : ℕ). assign vs M val (orderOf edges verts x) g) e) ∙ a .same
-
-    module _ (h : 0 < i) where
-      abbrev last : Cut
-      last = record { key = getD edges (i - 1) 0; at = getD verts (i - 1) 0 }
-
-      pub last-key : getD edges (i - 1) 0 < n
-      last-key = o .keys (i - 1) (omega (arith, a .upto))
-
-      pub last-at : getD verts (i - 1) 0 < m
-      last-at = o .vertices (i - 1) (omega (arith, a .upto))
-
-      pub last-value : val last < M
-      last-value = o .values (i - 1) (omega (arith, a .upto))
-
-      pub assigning-more : (ms′ g′ : List ℕ) → Word M (val last) (last .at) (vs (last .key)) ms g ms′ g′ → Assigning vs n m M val edges verts g₀ ms′ g′ (i - 1)
-      unfolding orderOf assign
-      assigning-more ms′ g′ w =
-          let x : ℕ = wordFor M (val last) (sumAt g (vs (last .key))) in
-          let e : suc (i - 1) ≡ i = omega arith in
-          let k : Marked M (set ms (last .at) 1) (set g (last .at) x) =
-          marked-more M ms g (last .at) x (a .marked) (omega (arith, last-at, a .longg)) (word-below M (val last) (sumAt g (vs (last .key))) (omega (arith, last-value))) in
-          record {
-            upto = omega (arith, a .upto);
-            longg = ap length (w .words) ∙ length-set g (last .at) x ∙ a .longg;
-            marked = rw (w .words, w .marks) k;
-            same =
-                ap (assign vs M val (orderOf edges verts (i - 1))) (w .words)
-                ∙ ap (λ (y : ℕ). assign vs M val (orderOf edges verts y) g) e ∙ a .same;
-          }

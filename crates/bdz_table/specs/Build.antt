@@ -15,6 +15,7 @@ use Rattle.bdz_base.specs.declared.verts.Kind.the-variants.{Assigned, Compact}
 use Rattle.bdz_table.specs.Assign.{assign, partOf}
 use Rattle.bdz_table.specs.Keys.{graphOf}
 use Rattle.bdz_table.specs.Occupancy.{occupancyOf}
+use Rattle.bdz_table.specs.Order.{noPair}
 use Rattle.bdz_table.specs.Peel.{Cut, atsOf, peel}
 use Rattle.bdz_table.specs.Seeds.{firstSeed}
 use Rattle.bdz_table.specs.Values.{valuesNo}
@@ -22,6 +23,7 @@ use Rattle.bdz_table.specs.declared.index.Index.{Index}
 use Rattle.bdz_table.specs.declared.index.Built.{Built}
 use Rattle.bdz_table.specs.declared.index.Needs.{Needs}
 use Rattle.bdz_table.specs.declared.needs.Lengths.{Lengths}
+use Rattle.bdz_table.specs.declared.pairs.Pair.{Pair}
 
 -- ---- sizes
 
@@ -65,11 +67,10 @@ lacksRoom need lent =
     || (ltb (lent .degrees) (need .vertices)
     || (ltb (lent .xors) (need .vertices)
     || (ltb (lent .queue) (need .vertices)
-    || (ltb (lent .edges) (need .order)
-    || (ltb (lent .verts) (need .order)
+    || (ltb (lent .order) (need .order)
     || (ltb (lent .marks) (need .vertices)
     || (ltb (lent .occupancy) (need .occupancy)
-    || ltb (lent .seen) (need .seen))))))))
+    || ltb (lent .seen) (need .seen)))))))
 
 -- "Assigned build: 1; no keys is accepted with any modulus; 2; 13; 14": the checks before anything is touched
 unfoldable pub assignedEarly : ℕ → ℕ → ℕ → Lengths → ℕ
@@ -176,47 +177,52 @@ compactOccupancy keys =
 abbrev pub cleared : Bool → ℕ → List ℕ → List ℕ
 cleared begun need old = cond begun (over (replicate need 0) old) old
 
+abbrev pub clearedPairs : Bool → ℕ → List Pair → List Pair
+clearedPairs begun need old = cond begun (over (replicate need noPair) old) old
+
 -- ---- the promises
 
-abbrev pub lengthsOf : List ℕ → List ℕ → List ℕ → List ℕ → List ℕ → List ℕ → List ℕ → List ℕ → List ℕ → Lengths
-lengthsOf table degrees xors queue edges verts marks occupancy seen =
+-- what is lent, where the order is so long
+abbrev pub lengthsWith : List ℕ → List ℕ → List ℕ → List ℕ → ℕ → List ℕ → List ℕ → List ℕ → Lengths
+lengthsWith table degrees xors queue order marks occupancy seen =
     record {
       table = length table;
       degrees = length degrees;
       xors = length xors;
       queue = length queue;
-      edges = length edges;
-      verts = length verts;
+      order = order;
       marks = length marks;
       occupancy = length occupancy;
       seen = length seen;
     }
 
+abbrev pub lengthsOf : List ℕ → List ℕ → List ℕ → List ℕ → List Pair → List ℕ → List ℕ → List ℕ → Lengths
+lengthsOf table degrees xors queue order = lengthsWith table degrees xors queue (length order)
+
 -- what a build answers, and what its lent buffers then hold, from its number and whether it has begun
-pub record BuiltTo (number : ℕ) (go : Bool) (index : Index) (need : Needs) (words table degrees xors queue edges verts marks : List ℕ) (r : Built) (table′ degrees′ xors′ queue′ edges′ verts′ marks′ : List ℕ) : Type 0 where
+pub record BuiltTo (number : ℕ) (go : Bool) (index : Index) (need : Needs) (words table degrees xors queue : List ℕ) (order : List Pair) (marks : List ℕ) (r : Built) (table′ degrees′ xors′ queue′ : List ℕ) (order′ : List Pair) (marks′ : List ℕ) : Type 0 where
   pub answer-is : r ≡ builtFor number index
   pub table-is : table′ ≡ written number words table
   pub degrees-are : degrees′ ≡ cleared go (need .vertices) degrees
   pub xors-are : xors′ ≡ cleared go (need .vertices) xors
   pub queue-is : queue′ ≡ cleared go (need .vertices) queue
-  pub edges-are : edges′ ≡ cleared go (need .order) edges
-  pub verts-are : verts′ ≡ cleared go (need .order) verts
+  pub order-is : order′ ≡ clearedPairs go (need .order) order
   pub marks-are : marks′ ≡ cleared go (need .vertices) marks
 
 -- the assigned build's whole promise, from the number of its early checks
-pub record AssignedFrom (early : ℕ) (keys values : List ℕ) (modulus : ℕ) (table degrees xors queue edges verts marks seen : List ℕ) (r : Built) (table′ degrees′ xors′ queue′ edges′ verts′ marks′ seen′ : List ℕ) : Type 0 where
-  pub to : BuiltTo (buildNo Assigned keys early (valuesNo modulus [] values)) (begun (length keys) early) (indexFor Assigned keys modulus) (needsOf Assigned (length keys) modulus) (assignedTable keys values modulus) table degrees xors queue edges verts marks r table′ degrees′ xors′ queue′ edges′ verts′ marks′
+pub record AssignedFrom (early : ℕ) (keys values : List ℕ) (modulus : ℕ) (table degrees xors queue : List ℕ) (order : List Pair) (marks seen : List ℕ) (r : Built) (table′ degrees′ xors′ queue′ : List ℕ) (order′ : List Pair) (marks′ seen′ : List ℕ) : Type 0 where
+  pub to : BuiltTo (buildNo Assigned keys early (valuesNo modulus [] values)) (begun (length keys) early) (indexFor Assigned keys modulus) (needsOf Assigned (length keys) modulus) (assignedTable keys values modulus) table degrees xors queue order marks r table′ degrees′ xors′ queue′ order′ marks′
   pub seen-is : seen′ ≡ cleared (begun (length keys) early) (needsOf Assigned (length keys) modulus .seen) seen
 
-abbrev pub BuiltAssigned : List ℕ → List ℕ → ℕ → List ℕ → List ℕ → List ℕ → List ℕ → List ℕ → List ℕ → List ℕ → List ℕ → Built → List ℕ → List ℕ → List ℕ → List ℕ → List ℕ → List ℕ → List ℕ → List ℕ → Type 0
-BuiltAssigned keys values modulus table degrees xors queue edges verts marks seen =
-    AssignedFrom (assignedEarly (length keys) (length values) modulus (lengthsOf table degrees xors queue edges verts marks [] seen)) keys values modulus table degrees xors queue edges verts marks seen
+abbrev pub BuiltAssigned : List ℕ → List ℕ → ℕ → List ℕ → List ℕ → List ℕ → List ℕ → List Pair → List ℕ → List ℕ → Built → List ℕ → List ℕ → List ℕ → List ℕ → List Pair → List ℕ → List ℕ → Type 0
+BuiltAssigned keys values modulus table degrees xors queue order marks seen =
+    AssignedFrom (assignedEarly (length keys) (length values) modulus (lengthsOf table degrees xors queue order marks [] seen)) keys values modulus table degrees xors queue order marks seen
 
 -- the compact build's
-pub record CompactFrom (early : ℕ) (keys table occupancy degrees xors queue edges verts marks : List ℕ) (r : Built) (table′ occupancy′ degrees′ xors′ queue′ edges′ verts′ marks′ : List ℕ) : Type 0 where
-  pub to : BuiltTo (buildNo Compact keys early 0) (begun (length keys) early) (indexFor Compact keys (length keys)) (needsOf Compact (length keys) (length keys)) (compactTable keys) table degrees xors queue edges verts marks r table′ degrees′ xors′ queue′ edges′ verts′ marks′
+pub record CompactFrom (early : ℕ) (keys table occupancy degrees xors queue : List ℕ) (order : List Pair) (marks : List ℕ) (r : Built) (table′ occupancy′ degrees′ xors′ queue′ : List ℕ) (order′ : List Pair) (marks′ : List ℕ) : Type 0 where
+  pub to : BuiltTo (buildNo Compact keys early 0) (begun (length keys) early) (indexFor Compact keys (length keys)) (needsOf Compact (length keys) (length keys)) (compactTable keys) table degrees xors queue order marks r table′ degrees′ xors′ queue′ order′ marks′
   pub occupancy-is : occupancy′ ≡ written (buildNo Compact keys early 0) (compactOccupancy keys) occupancy
 
-abbrev pub BuiltCompact : List ℕ → List ℕ → List ℕ → List ℕ → List ℕ → List ℕ → List ℕ → List ℕ → List ℕ → Built → List ℕ → List ℕ → List ℕ → List ℕ → List ℕ → List ℕ → List ℕ → List ℕ → Type 0
-BuiltCompact keys table occupancy degrees xors queue edges verts marks =
-    CompactFrom (compactEarly (length keys) (lengthsOf table degrees xors queue edges verts marks occupancy [])) keys table occupancy degrees xors queue edges verts marks
+abbrev pub BuiltCompact : List ℕ → List ℕ → List ℕ → List ℕ → List ℕ → List ℕ → List Pair → List ℕ → Built → List ℕ → List ℕ → List ℕ → List ℕ → List ℕ → List Pair → List ℕ → Type 0
+BuiltCompact keys table occupancy degrees xors queue order marks =
+    CompactFrom (compactEarly (length keys) (lengthsOf table degrees xors queue order marks occupancy [])) keys table occupancy degrees xors queue order marks

@@ -4,6 +4,8 @@ pub mod Graph
 pub mod Keys
 pub mod Lookup
 pub mod Occupancy
+pub mod Order
+pub mod Pairs
 pub mod Peel
 pub mod Rank
 pub mod Seeds

@@ -5,19 +5,25 @@ use mathlib.Core.Bool.{Bool, true, false, cond}
 use mathlib.Core.List.{List, [], _∷_, _++_}
 use lib.Dec.{eqb}
 use lib.Bits.{bitXor}
-use lib.ListN.{length, getD, set, take, replicate}
+use lib.ListN.{length, getD, set, take, drop, replicate}
+use Rattle.bdz_base.specs.Buffer.{over, written}
 use Rattle.bdz_base.specs.Mix.{seedAt}
+use Rattle.bdz_base.specs.Sizes.{occupancyBytes}
 use Rattle.bdz_base.specs.declared.verts.Kind.{Kind}
-use Rattle.bdz_base.specs.declared.verts.Kind.the-variants.{Compact}
+use Rattle.bdz_base.specs.declared.verts.Kind.the-variants.{Assigned, Compact}
 use Rattle.bdz_table.specs.Graph.{has, Distinct, onlyIf, degree, xorAt, Crowded, Peelable}
-use Rattle.bdz_table.specs.Peel.{Cut, atsOf, keepIf, ones, upTo, peel}
+use Rattle.bdz_table.specs.Peel.{Cut, keepIf, ones, upTo, peel}
 use Rattle.bdz_table.specs.Keys.{graphOf}
 use Rattle.bdz_table.specs.Seeds.{Fails, firstSeed}
 use Rattle.bdz_table.specs.declared.seeds.Found.{Found}
-use Rattle.bdz_table.specs.Assign.{sumAt, wordFor, assign, partOf}
-use Rattle.bdz_table.specs.Occupancy.{occupancyOf}
-use Rattle.bdz_table.specs.Build.{verticesFor, lateNo, seedFor}
+use Rattle.bdz_table.specs.Assign.{sumAt, wordFor}
+use Rattle.bdz_table.specs.Build.{verticesFor, needsOf, assignedEarly, compactEarly, begun, lateNo, buildNo, seedFor, cutsFor, indexFor, builtFor, assignedTable, compactTable, compactOccupancy, cleared, lengthsWith}
+use Rattle.bdz_table.specs.Values.{valuesNo}
 use Rattle.bdz_table.specs.declared.build.Ran.{Ran}
+use Rattle.bdz_table.specs.declared.build.Ready.{Ready}
+use Rattle.bdz_table.specs.declared.index.Built.{Built}
+use Rattle.bdz_table.specs.declared.index.Index.{Index}
+use Rattle.bdz_table.specs.declared.index.Needs.{Needs}
 
 -- the vertices us are different, and the two tables reach over them
 pub record Places (us ds xs : List ℕ) : Type 0 where
@@ -150,89 +156,139 @@ pub record Word (M x v : ℕ) (us ms g ms′ g′ : List ℕ) : Type 0 where
   pub words : g′ ≡ set g v (wordFor M x (sumAt g us))
   pub marks : ms′ ≡ set ms v 1
 
--- the first c entries of an order, newest first
-unfoldable pub orderOf : List ℕ → List ℕ → ℕ → List Cut
-orderOf edges verts zero = []
-orderOf edges verts (suc c) = record { key = getD edges c 0; at = getD verts c 0 } ∷ orderOf edges verts c
-
--- the order names keys and vertices, and each key has a value below M
-pub record Ordered (n m M : ℕ) (val : Cut → ℕ) (edges verts ms g : List ℕ) : Type 0 where
-  pub longe : length edges ≡ n
-  pub longv : length verts ≡ n
-  pub longg : length g ≡ m
-  pub keys : (i : ℕ) → i < n → getD edges i 0 < n
-  pub vertices : (i : ℕ) → i < n → getD verts i 0 < m
-  pub values : (i : ℕ) → i < n → val (record { key = getD edges i 0; at = getD verts i 0 }) < M
-  pub marked : Marked M ms g
-
--- ---- from the order that the peeler left to an order of its own
-
--- the order's vertices name words of xs
-pub record Notable (xs q edges verts : List ℕ) : Type 0 where
-  pub same : length verts ≡ length edges
-  pub fits : length edges ≤ length q
-  pub inside : (i : ℕ) → i < length edges → getD q i 0 < length xs
-
--- the cut vertices are the front of the queue, and the xor word of a cut vertex is its key
-pub record Noted (xs q edges verts : List ℕ) (n : ℕ) : Type 0 where
-  pub edge : (i : ℕ) → i < n → getD edges i 0 ≡ getD xs (getD q i 0) 0
-  pub vertex : (i : ℕ) → i < n → getD verts i 0 ≡ getD q i 0
-
--- the compact words, and the occupancy of the cut vertices
-pub record Compacted (keys : List ℕ) (seed m : ℕ) (edges verts g₀ g occ : List ℕ) : Type 0 where
-  pub words : g ≡ assign (graphOf Compact keys seed m) 3 (λ p. partOf m (p .at)) (orderOf edges verts (length keys)) g₀
-  pub occupied : occ ≡ occupancyOf m (atsOf (orderOf edges verts (length keys)))
-
--- ---- the builds
-
--- lent buffers for n keys on m vertices
-pub record Orderable (n m : ℕ) (ds xs q edges verts : List ℕ) : Type 0 where
-  pub lent : Lent n m ds xs q
-  pub longe : length edges ≡ n
-  pub longv : length verts ≡ n
-
--- the first seed that works, with the order of the keys at it, or none
-pub record KeysOrdered (kind : Kind) (keys : List ℕ) (m : ℕ) (edges verts : List ℕ) (r : Found) : Type 0 where
-  pub tries-is : r .tries ≡ firstSeed kind keys m
-  pub seed-is : r .tries < 256 → r .seed ≡ seedAt (r .tries)
-  pub order : r .tries < 256 → orderOf edges verts (length keys) ≡ peel (graphOf kind keys (seedAt (r .tries)) m) (length keys) m .done
-  pub keys-inside : r .tries < 256 → (i : ℕ) → i < length keys → getD edges i 0 < length keys
-  pub vertices-inside : r .tries < 256 → (i : ℕ) → i < length keys → getD verts i 0 < m
-
--- every scratch buffer ends as zeros
-pub record Cleared (ds xs q edges verts ms ds′ xs′ q′ edges′ verts′ ms′ : List ℕ) : Type 0 where
-  pub degrees : ds′ ≡ replicate (length ds) 0
-  pub xors : xs′ ≡ replicate (length xs) 0
-  pub queue : q′ ≡ replicate (length q) 0
-  pub edge-list : edges′ ≡ replicate (length edges) 0
-  pub vertex-list : verts′ ≡ replicate (length verts) 0
-  pub marks : ms′ ≡ replicate (length ms) 0
+-- ---- the builds, up to their pairs
 
 -- buffers of just the length that two keys or more need
-pub record Many (kind : Kind) (keys : List ℕ) (m : ℕ) (table ds xs q edges verts ms : List ℕ) : Type 0 where
+pub record Many (kind : Kind) (keys : List ℕ) (m : ℕ) (table ds xs q ms : List ℕ) : Type 0 where
   pub count : 2 ≤ length keys
   pub is : m ≡ verticesFor kind (length keys)
   pub longt : length table ≡ m
   pub longm : length ms ≡ m
-  pub orderable : Orderable (length keys) m ds xs q edges verts
+  pub lent : Lent (length keys) m ds xs q
 
--- a value below the modulus for each of n keys
-pub record Valued (n modulus : ℕ) (values : List ℕ) : Type 0 where
-  pub long : length values ≡ n
-  pub limit : modulus ≤ 2 ^ 30
-  pub below : (i : ℕ) → i < n → getD values i 0 < modulus
+-- buffers of just the length that the keys need
+pub record Shaped (kind : Kind) (keys : List ℕ) (m : ℕ) (table ds xs q ms : List ℕ) : Type 0 where
+  pub some : 1 ≤ length keys
+  pub is : m ≡ verticesFor kind (length keys)
+  pub longt : length table ≡ m
+  pub many : 2 ≤ length keys → Many kind keys m table ds xs q ms
 
--- what a run came to: its number, its seed, and a buffer that is new if it was accepted
+-- what a run came to: its number, and its seed
 pub record RanTo (kind : Kind) (keys : List ℕ) (verdict : ℕ) (r : Ran) : Type 0 where
   pub no-is : r .no ≡ lateNo kind keys verdict
   pub seed-is : r .no ≡ 0 → r .seed ≡ seedFor kind keys
 
+-- a buffer that is new if the run was accepted
 abbrev pub newIf : ℕ → List ℕ → List ℕ → List ℕ
 newIf number new old = cond (eqb number 0) new old
 
--- buffers of just the length that the keys need
-pub record Shaped (kind : Kind) (keys : List ℕ) (m : ℕ) (table ds xs q edges verts ms : List ℕ) : Type 0 where
-  pub some : 1 ≤ length keys
-  pub is : m ≡ verticesFor kind (length keys)
-  pub longt : length table ≡ m
-  pub many : 2 ≤ length keys → Many kind keys m table ds xs q edges verts ms
+-- the order stands where the peeler left it, and names keys and vertices
+pub record OrderLeft (kind : Kind) (keys : List ℕ) (m : ℕ) (xs q : List ℕ) : Type 0 where
+  pub order : cutsOf xs q (length keys) ≡ cutsFor kind keys
+  pub edges : (i : ℕ) → i < length keys → getD xs (getD q i 0) 0 < length keys
+  pub vertices : (i : ℕ) → i < length keys → getD q i 0 < m
+
+-- the pairs of two keys or more are still to be noted and assigned: the words and the marks are zeros
+pub record Pending (kind : Kind) (keys : List ℕ) (m : ℕ) (r : Ran) (table xs q ms : List ℕ) : Type 0 where
+  pub accepted : r .no ≡ 0
+  pub many : 2 ≤ length keys
+  pub all : r .pairs ≡ length keys
+  pub left : OrderLeft kind keys m xs q
+  pub words : table ≡ replicate m 0
+  pub marks : ms ≡ replicate m 0
+
+-- pairs are pending, or none are and the run was refused
+pub record SoughtMany (kind : Kind) (keys : List ℕ) (m : ℕ) (table : List ℕ) (r : Ran) (table′ xs′ q′ ms′ : List ℕ) : Type 0 where
+  pub pending : 0 < r .pairs → Pending kind keys m r table′ xs′ q′ ms′
+  pub refused : r .pairs ≡ 0 → r .no ≡ 0 → ⊥
+  pub same : r .pairs ≡ 0 → table′ ≡ table
+
+-- pairs are pending, or the table is what it ends as
+pub record Sought (kind : Kind) (keys : List ℕ) (m : ℕ) (new table : List ℕ) (r : Ran) (table′ xs′ q′ ms′ : List ℕ) : Type 0 where
+  pub pending : 0 < r .pairs → Pending kind keys m r table′ xs′ q′ ms′
+  pub done : r .pairs ≡ 0 → table′ ≡ newIf (r .no) new table
+
+-- zeros if the run was accepted
+abbrev pub clearedIf : ℕ → List ℕ → List ℕ
+clearedIf number old = newIf number (replicate (length old) 0) old
+
+-- and the occupancy likewise
+pub record OccupancySought (keys : List ℕ) (m : ℕ) (r : Ran) (occ occ′ : List ℕ) : Type 0 where
+  pub pending : 0 < r .pairs → occ′ ≡ replicate (occupancyBytes m) 0
+  pub done : r .pairs ≡ 0 → occ′ ≡ newIf (r .no) (compactOccupancy keys) occ
+
+-- ---- in the whole of what is lent
+
+-- at most the first v entries have changed
+pub record Used (v : ℕ) (old new : List ℕ) : Type 0 where
+  pub room : v ≤ length old
+  pub long : length new ≡ length old
+  pub behind : drop v new ≡ drop v old
+
+-- the first k entries are zeros, and behind them nothing has changed
+pub record Zeroed (k : ℕ) (old new : List ℕ) : Type 0 where
+  pub room : k ≤ length old
+  pub zeros : take k new ≡ replicate k 0
+  pub behind : drop k new ≡ drop k old
+
+-- a build whose pairs are pending
+pub record Awaiting (kind : Kind) (keys : List ℕ) (number : ℕ) (r : Ready) (table xs q ms table′ : List ℕ) : Type 0 where
+  pub accepted : number ≡ 0
+  pub many : 2 ≤ length keys
+  pub all : r .pairs ≡ length keys
+  pub is : r .m ≡ verticesFor kind (length keys)
+  pub entries : r .vertices ≡ r .m
+  pub order-all : r .order ≡ length keys
+  pub seed-is : r .seed ≡ seedFor kind keys
+  pub left : OrderLeft kind keys (r .m) xs q
+  pub words : Zeroed (r .m) table table′
+  pub marks-room : r .m ≤ length ms
+  pub marks : take (r .m) ms ≡ replicate (r .m) 0
+
+-- a build up to its pairs: the answer, how much of the scratch and of the order it uses, and the table if no pairs are pending
+pub record ReadyTo (kind : Kind) (keys : List ℕ) (number : ℕ) (go : Bool) (index : Index) (need : Needs) (order : ℕ) (new table ds xs q ms : List ℕ) (r : Ready) (table′ ds′ xs′ q′ ms′ : List ℕ) : Type 0 where
+  pub answer-is : r .built ≡ builtFor number index
+  pub vertices-is : r .vertices ≡ cond go (need .vertices) 0
+  pub order-is : r .order ≡ cond go (need .order) 0
+  pub order-room : r .order ≤ order
+  pub order-fits : r .order ≤ r .vertices
+  pub degrees : Used (r .vertices) ds ds′
+  pub xors : Used (r .vertices) xs xs′
+  pub queue : Used (r .vertices) q q′
+  pub marks : Used (r .vertices) ms ms′
+  pub pending : 0 < r .pairs → Awaiting kind keys number r table xs′ q′ ms′ table′
+  pub done : r .pairs ≡ 0 → table′ ≡ written number new table
+
+-- the assigned build up to its pairs, from the number of its early checks
+pub record AssignedReady (early : ℕ) (keys values : List ℕ) (modulus order : ℕ) (table ds xs q ms seen : List ℕ) (r : Ready) (table′ ds′ xs′ q′ ms′ seen′ : List ℕ) : Type 0 where
+  pub to : ReadyTo Assigned keys (buildNo Assigned keys early (valuesNo modulus [] values)) (begun (length keys) early) (indexFor Assigned keys modulus) (needsOf Assigned (length keys) modulus) order (assignedTable keys values modulus) table ds xs q ms r table′ ds′ xs′ q′ ms′
+  pub seen-is : seen′ ≡ cleared (begun (length keys) early) (needsOf Assigned (length keys) modulus .seen) seen
+  -- where pairs are pending the values were judged
+  pub same : 0 < r .pairs → length values ≡ length keys
+  pub values-limit : 0 < r .pairs → modulus ≤ 2 ^ 30
+  pub values-below : 0 < r .pairs → (i : ℕ) → i < length values → getD values i 0 < modulus
+
+abbrev pub ReadyAssigned : List ℕ → List ℕ → ℕ → ℕ → List ℕ → List ℕ → List ℕ → List ℕ → List ℕ → List ℕ → Ready → List ℕ → List ℕ → List ℕ → List ℕ → List ℕ → List ℕ → Type 0
+ReadyAssigned keys values modulus order table ds xs q ms seen =
+    AssignedReady (assignedEarly (length keys) (length values) modulus (lengthsWith table ds xs q order ms [] seen)) keys values modulus order table ds xs q ms seen
+
+-- the compact build up to its pairs
+pub record CompactReady (early : ℕ) (keys : List ℕ) (order : ℕ) (table occ ds xs q ms : List ℕ) (r : Ready) (table′ occ′ ds′ xs′ q′ ms′ : List ℕ) : Type 0 where
+  pub to : ReadyTo Compact keys (buildNo Compact keys early 0) (begun (length keys) early) (indexFor Compact keys (length keys)) (needsOf Compact (length keys) (length keys)) order (compactTable keys) table ds xs q ms r table′ ds′ xs′ q′ ms′
+  pub occupied : 0 < r .pairs → Zeroed (occupancyBytes (r .m)) occ occ′
+  pub occupancy-done : r .pairs ≡ 0 → occ′ ≡ written (buildNo Compact keys early 0) (compactOccupancy keys) occ
+
+abbrev pub ReadyCompact : List ℕ → ℕ → List ℕ → List ℕ → List ℕ → List ℕ → List ℕ → List ℕ → Ready → List ℕ → List ℕ → List ℕ → List ℕ → List ℕ → List ℕ → Type 0
+ReadyCompact keys order table occ ds xs q ms =
+    CompactReady (compactEarly (length keys) (lengthsWith table ds xs q order ms occ [])) keys order table occ ds xs q ms
+
+-- a build that touches nothing, with its answer
+abbrev pub untouchedOf : Built → Ready
+untouchedOf built = record { built = built; seed = 0; m = 0; pairs = 0; vertices = 0; order = 0 }
+
+-- the first v entries of every scratch buffer end as zeros
+pub record Cleared (v : ℕ) (ds xs q ms ds′ xs′ q′ ms′ : List ℕ) : Type 0 where
+  pub degrees : ds′ ≡ over (replicate v 0) ds
+  pub xors : xs′ ≡ over (replicate v 0) xs
+  pub queue : q′ ≡ over (replicate v 0) q
+  pub marks : ms′ ≡ over (replicate v 0) ms

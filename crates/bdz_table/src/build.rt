@@ -1,19 +1,14 @@
-// Both builds: the search for a seed, the assigns, and the scratch left as zeros.
+// Both builds: the search for a seed, the assigns along the pairs, and the scratch left as zeros.
 ghost use mathlib.Core.Path.{_≡_};
 ghost use mathlib.Core.List.{[]};
 ghost use Prim.Native.Nat.{_≤_};
-ghost use lib.ListN.{length, getD, replicate};
+ghost use lib.ListN.{length, replicate};
 ghost use Rattle.bdz_base.specs.Sizes.{occupancyBytes};
 ghost use Rattle.bdz_base.specs.declared.verts.Kind.the-variants.{Assigned, Compact};
-ghost use Rattle.bdz_table.specs.Assign.{partOf};
-ghost use Rattle.bdz_table.specs.Build.{wordsFor, cutsFor, assignedTable, compactTable, compactOccupancy, widthFor, builtFor, assignedEarly, compactEarly, lengthsOf, BuiltAssigned, BuiltCompact};
-ghost use Rattle.bdz_table.specs.Occupancy.{occupancyOf};
-ghost use Rattle.bdz_table.specs.Peel.{atsOf};
+ghost use Rattle.bdz_table.specs.Build.{assignedTable, compactTable, compactOccupancy, widthFor, builtFor, assignedEarly, compactEarly, lengthsWith, BuiltAssigned, BuiltCompact};
+ghost use Rattle.bdz_table.specs.Order.{ownPairs};
 ghost use Rattle.bdz_table.specs.Values.{valuesNo};
-ghost use Rattle.bdz_table.specs.Steps.{Orderable, KeysOrdered, Cleared, Many, Shaped, Valued, RanTo, newIf};
-use super::assign::assign_compact;
-use super::assign::assign_g;
-use super::assign::note_order;
+ghost use Rattle.bdz_table.specs.Steps.{Many, Shaped, RanTo, SoughtMany, Sought, clearedIf, OccupancySought, untouchedOf, ReadyAssigned, ReadyCompact, Cleared};
 use super::index::Built;
 use super::index::Index;
 use super::index::refused;
@@ -22,129 +17,68 @@ use super::needs::Lengths;
 use super::needs::early_assigned;
 use super::needs::early_compact;
 use super::needs::needs;
+use super::pairs::Pair;
+use super::pairs::assign_compact;
+use super::pairs::assign_g;
+use super::pairs::note_order;
 use super::scratch::zero8;
 use super::scratch::zero32;
-use super::seeds::Found;
 use super::seeds::find_seed;
 use super::seen::judge_values;
 use bdz_base::refusal::ACCEPTED;
 use bdz_base::refusal::GRAPH_DID_NOT_PEEL;
 use bdz_base::verts::Kind;
 
-// What a run came to: a refusal number, or 0 and the seed.
+// What a run came to: a refusal number, or 0 and the seed; and how many pairs are still to be noted and assigned.
 struct Ran {
     no: u32,
     seed: u64,
+    pairs: usize,
 }
 
-// The first seed that works, and the order of the keys at it.
-fn order_keys(
+// A build before its pairs are noted: its answer, and where the pairs are assigned; how much of the scratch and of the order it uses.
+pub(crate) struct Ready {
+    pub(crate) built: Built,
+    pub(crate) seed: u64,
+    pub(crate) m: u32,
+    pub(crate) pairs: usize,
+    pub(crate) vertices: usize,
+    pub(crate) order: usize,
+}
+
+// The first seed that works for two keys or more. The order stays where the peeler left it; the words and the marks are zeros.
+fn seek(
     keys: &[u64],
     m: u32,
     kind: Kind,
+    table: &mut [u32],
     degrees: &mut [u8],
     xors: &mut [u32],
     queue: &mut [u32],
-    edges: &mut [u32],
-    verts: &mut [u32],
-) -> Found
-    requires { ⌜ Orderable (length (now keys)) m (now degrees) (now xors) (now queue) (now edges) (now verts) ⌝ }
-    ensures { λ r. ⌜ KeysOrdered kind (now (keys .entry)) m (now (edges .exit)) (now (verts .exit)) r ⌝ }
+    marks: &mut [u8],
+) -> Ran
+    requires { ⌜ Many kind (now keys) m (now table) (now degrees) (now xors) (now queue) (now marks) ⌝ }
+    ensures { λ r. ⌜ RanTo kind (now (keys .entry)) 0 r ⌝ }
+    ensures { λ r. ⌜ SoughtMany kind (now (keys .entry)) m (now (table .entry)) r (now (table .exit)) (now (xors .exit)) (now (queue .exit)) (now (marks .exit)) ⌝ }
 {
     let found = find_seed(keys, m, kind, degrees, xors, queue);
-    if found.tries < 256 {
-        note_order(xors, queue, edges, verts);
-    }
-    found
-}
-
-// Every scratch buffer ends as zeros.
-fn clear_scratch(
-    degrees: &mut [u8],
-    xors: &mut [u32],
-    queue: &mut [u32],
-    edges: &mut [u32],
-    verts: &mut [u32],
-    marks: &mut [u8],
-)
-    ensures { λ r. ⌜ Cleared (now (degrees .entry)) (now (xors .entry)) (now (queue .entry)) (now (edges .entry)) (now (verts .entry)) (now (marks .entry)) (now (degrees .exit)) (now (xors .exit)) (now (queue .exit)) (now (edges .exit)) (now (verts .exit)) (now (marks .exit)) ⌝ }
-{
-    zero8(degrees);
-    zero32(xors);
-    zero32(queue);
-    zero32(edges);
-    zero32(verts);
-    zero8(marks);
-}
-
-// The assigned table of two keys or more.
-fn many_assigned(
-    keys: &[u64],
-    values: &[u32],
-    modulus: u32,
-    m: u32,
-    table: &mut [u32],
-    degrees: &mut [u8],
-    xors: &mut [u32],
-    queue: &mut [u32],
-    edges: &mut [u32],
-    verts: &mut [u32],
-    marks: &mut [u8],
-) -> Ran
-    requires { ⌜ Many Assigned (now keys) m (now table) (now degrees) (now xors) (now queue) (now edges) (now verts) (now marks) ⌝ }
-    requires { ⌜ Valued (length (now keys)) modulus (now values) ⌝ }
-    ensures { λ r. ⌜ RanTo Assigned (now (keys .entry)) 0 r ⌝ }
-    ensures { λ r. ⌜ now (table .exit) ≡ newIf (r .no) (wordsFor Assigned (now (keys .entry)) modulus (λ p. getD (now (values .entry)) (p .key) 0)) (now (table .entry)) ⌝ }
-{
-    let found = order_keys(keys, m, Kind::Assigned, degrees, xors, queue, edges, verts);
     if 256 <= found.tries {
         return Ran {
             no: GRAPH_DID_NOT_PEEL,
             seed: 0,
+            pairs: 0,
         };
     }
-    let seed = found.seed;
     zero32(table);
     zero8(marks);
-    assign_g(keys, values, seed, m, modulus, edges, verts, table, marks);
-    Ran { no: 0, seed }
-}
-
-// The compact table and occupancy of two keys or more.
-fn many_compact(
-    keys: &[u64],
-    m: u32,
-    table: &mut [u32],
-    occupancy: &mut [u8],
-    degrees: &mut [u8],
-    xors: &mut [u32],
-    queue: &mut [u32],
-    edges: &mut [u32],
-    verts: &mut [u32],
-    marks: &mut [u8],
-) -> Ran
-    requires { ⌜ Many Compact (now keys) m (now table) (now degrees) (now xors) (now queue) (now edges) (now verts) (now marks) ⌝ }
-    requires { ⌜ length (now occupancy) ≡ occupancyBytes m ⌝ }
-    ensures { λ r. ⌜ RanTo Compact (now (keys .entry)) 0 r ⌝ }
-    ensures { λ r. ⌜ now (table .exit) ≡ newIf (r .no) (wordsFor Compact (now (keys .entry)) 3 (λ p. partOf m (p .at))) (now (table .entry)) ⌝ }
-    ensures { λ r. ⌜ now (occupancy .exit) ≡ newIf (r .no) (occupancyOf m (atsOf (cutsFor Compact (now (keys .entry))))) (now (occupancy .entry)) ⌝ }
-{
-    let found = order_keys(keys, m, Kind::Compact, degrees, xors, queue, edges, verts);
-    if 256 <= found.tries {
-        return Ran {
-            no: GRAPH_DID_NOT_PEEL,
-            seed: 0,
-        };
+    Ran {
+        no: ACCEPTED,
+        seed: found.seed,
+        pairs: keys.len(),
     }
-    let seed = found.seed;
-    zero32(table);
-    zero8(marks);
-    zero8(occupancy);
-    assign_compact(keys, seed, m, edges, verts, table, marks, occupancy);
-    Ran { no: 0, seed }
 }
 
-// The assigned table, unless the values were refused.
+// The assigned table as far as it goes without pairs, unless the values were refused.
 fn work_assigned(
     keys: &[u64],
     values: &[u32],
@@ -155,41 +89,41 @@ fn work_assigned(
     degrees: &mut [u8],
     xors: &mut [u32],
     queue: &mut [u32],
-    edges: &mut [u32],
-    verts: &mut [u32],
     marks: &mut [u8],
 ) -> Ran
-    requires { ⌜ Shaped Assigned (now keys) m (now table) (now degrees) (now xors) (now queue) (now edges) (now verts) (now marks) ⌝ }
-    requires { ⌜ (length (now values) ≡ length (now keys)) × (verdict ≡ 0 → Valued (length (now keys)) modulus (now values)) ⌝ }
+    requires { ⌜ Shaped Assigned (now keys) m (now table) (now degrees) (now xors) (now queue) (now marks) ⌝ }
+    requires { ⌜ length (now values) ≡ length (now keys) ⌝ }
     ensures { λ r. ⌜ RanTo Assigned (now (keys .entry)) verdict r ⌝ }
-    ensures { λ r. ⌜ now (table .exit) ≡ newIf (r .no) (assignedTable (now (keys .entry)) (now (values .entry)) modulus) (now (table .entry)) ⌝ }
+    ensures { λ r. ⌜ Sought Assigned (now (keys .entry)) m (assignedTable (now (keys .entry)) (now (values .entry)) modulus) (now (table .entry)) r (now (table .exit)) (now (xors .exit)) (now (queue .exit)) (now (marks .exit)) ⌝ }
 {
-    if verdict != 0 {
+    if verdict != ACCEPTED {
         return Ran {
             no: verdict,
             seed: 0,
+            pairs: 0,
         };
     }
     if keys.len() == 1 {
         table[0] = values[0];
-        return Ran { no: 0, seed: 1 };
+        return Ran {
+            no: ACCEPTED,
+            seed: 1,
+            pairs: 0,
+        };
     }
-    many_assigned(
-        keys,
-        values,
-        modulus,
-        m,
-        table,
-        degrees,
-        xors,
-        queue,
-        edges,
-        verts,
-        marks,
-    )
+    seek(keys, m, Kind::Assigned, table, degrees, xors, queue, marks)
 }
 
-// The compact table and occupancy.
+// The occupancy of no vertex, unless the keys were refused.
+fn clear_occupancy(no: u32, occupancy: &mut [u8])
+    ensures { λ r. ⌜ now (occupancy .exit) ≡ clearedIf «no» (now (occupancy .entry)) ⌝ }
+{
+    if no == ACCEPTED {
+        zero8(occupancy);
+    }
+}
+
+// The compact table and occupancy as far as they go without pairs.
 fn work_compact(
     keys: &[u64],
     m: u32,
@@ -198,33 +132,26 @@ fn work_compact(
     degrees: &mut [u8],
     xors: &mut [u32],
     queue: &mut [u32],
-    edges: &mut [u32],
-    verts: &mut [u32],
     marks: &mut [u8],
 ) -> Ran
-    requires { ⌜ Shaped Compact (now keys) m (now table) (now degrees) (now xors) (now queue) (now edges) (now verts) (now marks) ⌝ }
+    requires { ⌜ Shaped Compact (now keys) m (now table) (now degrees) (now xors) (now queue) (now marks) ⌝ }
     requires { ⌜ length (now occupancy) ≡ occupancyBytes m ⌝ }
     ensures { λ r. ⌜ RanTo Compact (now (keys .entry)) 0 r ⌝ }
-    ensures { λ r. ⌜ now (table .exit) ≡ newIf (r .no) (compactTable (now (keys .entry))) (now (table .entry)) ⌝ }
-    ensures { λ r. ⌜ now (occupancy .exit) ≡ newIf (r .no) (compactOccupancy (now (keys .entry))) (now (occupancy .entry)) ⌝ }
+    ensures { λ r. ⌜ Sought Compact (now (keys .entry)) m (compactTable (now (keys .entry))) (now (table .entry)) r (now (table .exit)) (now (xors .exit)) (now (queue .exit)) (now (marks .exit)) ⌝ }
+    ensures { λ r. ⌜ OccupancySought (now (keys .entry)) m r (now (occupancy .entry)) (now (occupancy .exit)) ⌝ }
 {
     if keys.len() == 1 {
         table[0] = 0;
         occupancy[0] = 1;
-        return Ran { no: 0, seed: 1 };
+        return Ran {
+            no: ACCEPTED,
+            seed: 1,
+            pairs: 0,
+        };
     }
-    many_compact(
-        keys,
-        m,
-        table,
-        occupancy,
-        degrees,
-        xors,
-        queue,
-        edges,
-        verts,
-        marks,
-    )
+    let ran = seek(keys, m, Kind::Compact, table, degrees, xors, queue, marks);
+    clear_occupancy(ran.no, occupancy);
+    ran
 }
 
 // The values judged, with the seen values zero before and after.
@@ -259,78 +186,18 @@ fn finish(kind: Kind, n: u32, m: u32, modulus: u32, no: u32, seed: u64) -> Built
     }
 }
 
-// The same with the scratch left as zeros.
-fn run_assigned(
-    keys: &[u64],
-    values: &[u32],
-    modulus: u32,
-    verdict: u32,
-    m: u32,
-    table: &mut [u32],
-    degrees: &mut [u8],
-    xors: &mut [u32],
-    queue: &mut [u32],
-    edges: &mut [u32],
-    verts: &mut [u32],
-    marks: &mut [u8],
-) -> Ran
-    requires { ⌜ Shaped Assigned (now keys) m (now table) (now degrees) (now xors) (now queue) (now edges) (now verts) (now marks) ⌝ }
-    requires { ⌜ (length (now values) ≡ length (now keys)) × (verdict ≡ 0 → Valued (length (now keys)) modulus (now values)) ⌝ }
-    ensures { λ r. ⌜ RanTo Assigned (now (keys .entry)) verdict r ⌝ }
-    ensures { λ r. ⌜ now (table .exit) ≡ newIf (r .no) (assignedTable (now (keys .entry)) (now (values .entry)) modulus) (now (table .entry)) ⌝ }
-    ensures { λ r. ⌜ Cleared (now (degrees .entry)) (now (xors .entry)) (now (queue .entry)) (now (edges .entry)) (now (verts .entry)) (now (marks .entry)) (now (degrees .exit)) (now (xors .exit)) (now (queue .exit)) (now (edges .exit)) (now (verts .exit)) (now (marks .exit)) ⌝ }
+// A build that touches nothing, with its answer.
+fn untouched(built: Built) -> Ready
+    ensures { λ r. ⌜ r ≡ untouchedOf built ⌝ }
 {
-    let ran = work_assigned(
-        keys,
-        values,
-        modulus,
-        verdict,
-        m,
-        table,
-        degrees,
-        xors,
-        queue,
-        edges,
-        verts,
-        marks,
-    );
-    clear_scratch(degrees, xors, queue, edges, verts, marks);
-    ran
-}
-
-fn run_compact(
-    keys: &[u64],
-    m: u32,
-    table: &mut [u32],
-    occupancy: &mut [u8],
-    degrees: &mut [u8],
-    xors: &mut [u32],
-    queue: &mut [u32],
-    edges: &mut [u32],
-    verts: &mut [u32],
-    marks: &mut [u8],
-) -> Ran
-    requires { ⌜ Shaped Compact (now keys) m (now table) (now degrees) (now xors) (now queue) (now edges) (now verts) (now marks) ⌝ }
-    requires { ⌜ length (now occupancy) ≡ occupancyBytes m ⌝ }
-    ensures { λ r. ⌜ RanTo Compact (now (keys .entry)) 0 r ⌝ }
-    ensures { λ r. ⌜ now (table .exit) ≡ newIf (r .no) (compactTable (now (keys .entry))) (now (table .entry)) ⌝ }
-    ensures { λ r. ⌜ now (occupancy .exit) ≡ newIf (r .no) (compactOccupancy (now (keys .entry))) (now (occupancy .entry)) ⌝ }
-    ensures { λ r. ⌜ Cleared (now (degrees .entry)) (now (xors .entry)) (now (queue .entry)) (now (edges .entry)) (now (verts .entry)) (now (marks .entry)) (now (degrees .exit)) (now (xors .exit)) (now (queue .exit)) (now (edges .exit)) (now (verts .exit)) (now (marks .exit)) ⌝ }
-{
-    let ran = work_compact(
-        keys,
-        m,
-        table,
-        occupancy,
-        degrees,
-        xors,
-        queue,
-        edges,
-        verts,
-        marks,
-    );
-    clear_scratch(degrees, xors, queue, edges, verts, marks);
-    ran
+    Ready {
+        built,
+        seed: 0,
+        m: 0,
+        pairs: 0,
+        vertices: 0,
+        order: 0,
+    }
 }
 
 // An assigned build that has passed its early checks and has a key.
@@ -338,28 +205,26 @@ fn begin_assigned(
     keys: &[u64],
     values: &[u32],
     modulus: u32,
+    order: usize,
     table: &mut [u32],
     degrees: &mut [u8],
     xors: &mut [u32],
     queue: &mut [u32],
-    edges: &mut [u32],
-    verts: &mut [u32],
     marks: &mut [u8],
     seen: &mut [u8],
-) -> Built
+) -> Ready
     requires { ⌜ 1 ≤ length (now keys) ⌝ }
-    requires { ⌜ assignedEarly (length (now keys)) (length (now values)) modulus (lengthsOf (now table) (now degrees) (now xors) (now queue) (now edges) (now verts) (now marks) [] (now seen)) ≡ 0 ⌝ }
-    ensures { λ r. ⌜ BuiltAssigned (now (keys .entry)) (now (values .entry)) modulus (now (table .entry)) (now (degrees .entry)) (now (xors .entry)) (now (queue .entry)) (now (edges .entry)) (now (verts .entry)) (now (marks .entry)) (now (seen .entry)) r (now (table .exit)) (now (degrees .exit)) (now (xors .exit)) (now (queue .exit)) (now (edges .exit)) (now (verts .exit)) (now (marks .exit)) (now (seen .exit)) ⌝ }
+    requires { ⌜ assignedEarly (length (now keys)) (length (now values)) modulus (lengthsWith (now table) (now degrees) (now xors) (now queue) order (now marks) [] (now seen)) ≡ 0 ⌝ }
+    ensures { λ r. ⌜ ReadyAssigned (now (keys .entry)) (now (values .entry)) modulus order (now (table .entry)) (now (degrees .entry)) (now (xors .entry)) (now (queue .entry)) (now (marks .entry)) (now (seen .entry)) r (now (table .exit)) (now (degrees .exit)) (now (xors .exit)) (now (queue .exit)) (now (marks .exit)) (now (seen .exit)) ⌝ }
 {
     let n = keys.len() as u32;
     let need = needs(Kind::Assigned, n, modulus);
     let words = need.table as usize;
     let each = need.vertices as usize;
-    let pairs = need.order as usize;
     let bytes = need.seen as usize;
     let m = need.table as u32;
     let verdict = judge_part(values, modulus, &mut seen[..bytes]);
-    let ran = run_assigned(
+    let ran = work_assigned(
         keys,
         values,
         modulus,
@@ -369,37 +234,40 @@ fn begin_assigned(
         &mut degrees[..each],
         &mut xors[..each],
         &mut queue[..each],
-        &mut edges[..pairs],
-        &mut verts[..pairs],
         &mut marks[..each],
     );
-    finish(Kind::Assigned, n, m, modulus, ran.no, ran.seed)
+    Ready {
+        built: finish(Kind::Assigned, n, m, modulus, ran.no, ran.seed),
+        seed: ran.seed,
+        m,
+        pairs: ran.pairs,
+        vertices: each,
+        order: need.order as usize,
+    }
 }
 
 // A compact build that has passed its early checks and has a key.
 fn begin_compact(
     keys: &[u64],
+    order: usize,
     table: &mut [u32],
     occupancy: &mut [u8],
     degrees: &mut [u8],
     xors: &mut [u32],
     queue: &mut [u32],
-    edges: &mut [u32],
-    verts: &mut [u32],
     marks: &mut [u8],
-) -> Built
+) -> Ready
     requires { ⌜ 1 ≤ length (now keys) ⌝ }
-    requires { ⌜ compactEarly (length (now keys)) (lengthsOf (now table) (now degrees) (now xors) (now queue) (now edges) (now verts) (now marks) (now occupancy) []) ≡ 0 ⌝ }
-    ensures { λ r. ⌜ BuiltCompact (now (keys .entry)) (now (table .entry)) (now (occupancy .entry)) (now (degrees .entry)) (now (xors .entry)) (now (queue .entry)) (now (edges .entry)) (now (verts .entry)) (now (marks .entry)) r (now (table .exit)) (now (occupancy .exit)) (now (degrees .exit)) (now (xors .exit)) (now (queue .exit)) (now (edges .exit)) (now (verts .exit)) (now (marks .exit)) ⌝ }
+    requires { ⌜ compactEarly (length (now keys)) (lengthsWith (now table) (now degrees) (now xors) (now queue) order (now marks) (now occupancy) []) ≡ 0 ⌝ }
+    ensures { λ r. ⌜ ReadyCompact (now (keys .entry)) order (now (table .entry)) (now (occupancy .entry)) (now (degrees .entry)) (now (xors .entry)) (now (queue .entry)) (now (marks .entry)) r (now (table .exit)) (now (occupancy .exit)) (now (degrees .exit)) (now (xors .exit)) (now (queue .exit)) (now (marks .exit)) ⌝ }
 {
     let n = keys.len() as u32;
     let need = needs(Kind::Compact, n, n);
     let words = need.table as usize;
     let each = need.vertices as usize;
-    let pairs = need.order as usize;
     let bytes = need.occupancy as usize;
     let m = need.table as u32;
-    let ran = run_compact(
+    let ran = work_compact(
         keys,
         m,
         &mut table[..words],
@@ -407,14 +275,122 @@ fn begin_compact(
         &mut degrees[..each],
         &mut xors[..each],
         &mut queue[..each],
-        &mut edges[..pairs],
-        &mut verts[..pairs],
         &mut marks[..each],
     );
-    finish(Kind::Compact, n, m, n, ran.no, ran.seed)
+    Ready {
+        built: finish(Kind::Compact, n, m, n, ran.no, ran.seed),
+        seed: ran.seed,
+        m,
+        pairs: ran.pairs,
+        vertices: each,
+        order: need.order as usize,
+    }
 }
 
-// Every key gets its own value; the table is the lent one.
+// An assigned build up to its pairs.
+pub(crate) fn ready_assigned(
+    keys: &[u64],
+    values: &[u32],
+    modulus: u32,
+    order: usize,
+    table: &mut [u32],
+    degrees: &mut [u8],
+    xors: &mut [u32],
+    queue: &mut [u32],
+    marks: &mut [u8],
+    seen: &mut [u8],
+) -> Ready
+    ensures { λ r. ⌜ ReadyAssigned (now (keys .entry)) (now (values .entry)) modulus order (now (table .entry)) (now (degrees .entry)) (now (xors .entry)) (now (queue .entry)) (now (marks .entry)) (now (seen .entry)) r (now (table .exit)) (now (degrees .exit)) (now (xors .exit)) (now (queue .exit)) (now (marks .exit)) (now (seen .exit)) ⌝ }
+{
+    let lent = Lengths {
+        table: table.len(),
+        degrees: degrees.len(),
+        xors: xors.len(),
+        queue: queue.len(),
+        order,
+        marks: marks.len(),
+        occupancy: 0,
+        seen: seen.len(),
+    };
+    let early = early_assigned(keys.len(), values.len(), modulus, lent);
+    if early != ACCEPTED {
+        return untouched(refused(early));
+    }
+    if keys.len() == 0 {
+        return untouched(finish(Kind::Assigned, 0, 0, modulus, ACCEPTED, 0));
+    }
+    begin_assigned(
+        keys,
+        values,
+        modulus,
+        order,
+        table,
+        degrees,
+        xors,
+        queue,
+        marks,
+        seen,
+    )
+}
+
+// A compact build up to its pairs.
+pub(crate) fn ready_compact(
+    keys: &[u64],
+    order: usize,
+    table: &mut [u32],
+    occupancy: &mut [u8],
+    degrees: &mut [u8],
+    xors: &mut [u32],
+    queue: &mut [u32],
+    marks: &mut [u8],
+) -> Ready
+    ensures { λ r. ⌜ ReadyCompact (now (keys .entry)) order (now (table .entry)) (now (occupancy .entry)) (now (degrees .entry)) (now (xors .entry)) (now (queue .entry)) (now (marks .entry)) r (now (table .exit)) (now (occupancy .exit)) (now (degrees .exit)) (now (xors .exit)) (now (queue .exit)) (now (marks .exit)) ⌝ }
+{
+    let lent = Lengths {
+        table: table.len(),
+        degrees: degrees.len(),
+        xors: xors.len(),
+        queue: queue.len(),
+        order,
+        marks: marks.len(),
+        occupancy: occupancy.len(),
+        seen: 0,
+    };
+    let early = early_compact(keys.len(), lent);
+    if early != ACCEPTED {
+        return untouched(refused(early));
+    }
+    if keys.len() == 0 {
+        return untouched(finish(Kind::Compact, 0, 0, 0, ACCEPTED, 0));
+    }
+    begin_compact(keys, order, table, occupancy, degrees, xors, queue, marks)
+}
+
+// The first entries of every scratch buffer end as zeros.
+pub(crate) fn clear_scratch(
+    vertices: usize,
+    degrees: &mut [u8],
+    xors: &mut [u32],
+    queue: &mut [u32],
+    marks: &mut [u8],
+)
+    requires { ⌜ (vertices ≤ length (now degrees)) × (vertices ≤ length (now xors)) × (vertices ≤ length (now queue)) × (vertices ≤ length (now marks)) ⌝ }
+    ensures { λ r. ⌜ Cleared vertices (now (degrees .entry)) (now (xors .entry)) (now (queue .entry)) (now (marks .entry)) (now (degrees .exit)) (now (xors .exit)) (now (queue .exit)) (now (marks .exit)) ⌝ }
+{
+    zero8(&mut degrees[..vertices]);
+    zero32(&mut xors[..vertices]);
+    zero32(&mut queue[..vertices]);
+    zero8(&mut marks[..vertices]);
+}
+
+// The answer that a build came to.
+pub(crate) fn answer_of(ready: Ready) -> Built
+    ensures { λ r. ⌜ r ≡ ready .built ⌝ }
+{
+    ready.built
+}
+
+// Every key gets its own value; the table is the lent one. 1, 2, 13, 14, 3, 4, 5.
 pub fn build_assigned(
     keys: &[u64],
     values: &[u32],
@@ -423,47 +399,44 @@ pub fn build_assigned(
     degrees: &mut [u8],
     xors: &mut [u32],
     queue: &mut [u32],
-    edges: &mut [u32],
-    verts: &mut [u32],
+    order: &mut [Pair],
     marks: &mut [u8],
     seen: &mut [u8],
 ) -> Built
-    ensures { λ r. ⌜ BuiltAssigned (now (keys .entry)) (now (values .entry)) modulus (now (table .entry)) (now (degrees .entry)) (now (xors .entry)) (now (queue .entry)) (now (edges .entry)) (now (verts .entry)) (now (marks .entry)) (now (seen .entry)) r (now (table .exit)) (now (degrees .exit)) (now (xors .exit)) (now (queue .exit)) (now (edges .exit)) (now (verts .exit)) (now (marks .exit)) (now (seen .exit)) ⌝ }
+    ensures { λ r. ⌜ BuiltAssigned (now (keys .entry)) (now (values .entry)) modulus (now (table .entry)) (now (degrees .entry)) (now (xors .entry)) (now (queue .entry)) (now (order .entry)) (now (marks .entry)) (now (seen .entry)) r (now (table .exit)) (now (degrees .exit)) (now (xors .exit)) (now (queue .exit)) (now (order .exit)) (now (marks .exit)) (now (seen .exit)) ⌝ }
 {
-    let lent = Lengths {
-        table: table.len(),
-        degrees: degrees.len(),
-        xors: xors.len(),
-        queue: queue.len(),
-        edges: edges.len(),
-        verts: verts.len(),
-        marks: marks.len(),
-        occupancy: 0,
-        seen: seen.len(),
-    };
-    let early = early_assigned(keys.len(), values.len(), modulus, lent);
-    if early != ACCEPTED {
-        return refused(early);
-    }
-    if keys.len() == 0 {
-        return finish(Kind::Assigned, 0, 0, modulus, ACCEPTED, 0);
-    }
-    begin_assigned(
+    let lent = order.len();
+    let ready = ready_assigned(
         keys,
         values,
         modulus,
+        lent,
         table,
         degrees,
         xors,
         queue,
-        edges,
-        verts,
         marks,
         seen,
-    )
+    );
+    note_order(xors, queue, order, ready.pairs);
+    assign_g(
+        order,
+        ready.pairs,
+        keys,
+        values,
+        ready.seed,
+        ready.m,
+        modulus,
+        table,
+        marks,
+    );
+    clear_scratch(ready.vertices, degrees, xors, queue, marks);
+    // of a cleared queue the same notes are zeros
+    note_order(xors, queue, order, ready.order);
+    answer_of(ready)
 }
 
-// Every key gets its own number below the count of the keys; the table and the occupancy are the lent ones.
+// Every key gets its own number below the count of the keys; the table and the occupancy are the lent ones. 13, 14, 5.
 pub fn build_compact(
     keys: &[u64],
     table: &mut [u32],
@@ -471,39 +444,79 @@ pub fn build_compact(
     degrees: &mut [u8],
     xors: &mut [u32],
     queue: &mut [u32],
-    edges: &mut [u32],
-    verts: &mut [u32],
+    order: &mut [Pair],
     marks: &mut [u8],
 ) -> Built
-    ensures { λ r. ⌜ BuiltCompact (now (keys .entry)) (now (table .entry)) (now (occupancy .entry)) (now (degrees .entry)) (now (xors .entry)) (now (queue .entry)) (now (edges .entry)) (now (verts .entry)) (now (marks .entry)) r (now (table .exit)) (now (occupancy .exit)) (now (degrees .exit)) (now (xors .exit)) (now (queue .exit)) (now (edges .exit)) (now (verts .exit)) (now (marks .exit)) ⌝ }
+    ensures { λ r. ⌜ BuiltCompact (now (keys .entry)) (now (table .entry)) (now (occupancy .entry)) (now (degrees .entry)) (now (xors .entry)) (now (queue .entry)) (now (order .entry)) (now (marks .entry)) r (now (table .exit)) (now (occupancy .exit)) (now (degrees .exit)) (now (xors .exit)) (now (queue .exit)) (now (order .exit)) (now (marks .exit)) ⌝ }
 {
-    let lent = Lengths {
-        table: table.len(),
-        degrees: degrees.len(),
-        xors: xors.len(),
-        queue: queue.len(),
-        edges: edges.len(),
-        verts: verts.len(),
-        marks: marks.len(),
-        occupancy: occupancy.len(),
-        seen: 0,
-    };
-    let early = early_compact(keys.len(), lent);
-    if early != ACCEPTED {
-        return refused(early);
-    }
-    if keys.len() == 0 {
-        return finish(Kind::Compact, 0, 0, 0, ACCEPTED, 0);
-    }
-    begin_compact(
+    let lent = order.len();
+    let ready = ready_compact(keys, lent, table, occupancy, degrees, xors, queue, marks);
+    note_order(xors, queue, order, ready.pairs);
+    assign_compact(
+        order,
+        ready.pairs,
+        keys,
+        ready.seed,
+        ready.m,
+        table,
+        marks,
+        occupancy,
+    );
+    clear_scratch(ready.vertices, degrees, xors, queue, marks);
+    note_order(xors, queue, order, ready.order);
+    answer_of(ready)
+}
+
+// The assigned build with pairs of its own, for at most 1,000 keys. 14 for more.
+pub fn build_assigned_small(
+    keys: &[u64],
+    values: &[u32],
+    modulus: u32,
+    table: &mut [u32],
+    degrees: &mut [u8],
+    xors: &mut [u32],
+    queue: &mut [u32],
+    marks: &mut [u8],
+    seen: &mut [u8],
+) -> Built
+    ensures { λ r. ⌜ BuiltAssigned (now (keys .entry)) (now (values .entry)) modulus (now (table .entry)) (now (degrees .entry)) (now (xors .entry)) (now (queue .entry)) ownPairs (now (marks .entry)) (now (seen .entry)) r (now (table .exit)) (now (degrees .exit)) (now (xors .exit)) (now (queue .exit)) ownPairs (now (marks .exit)) (now (seen .exit)) ⌝ }
+{
+    let mut order = [Pair { edge: 0, vert: 0 }; 1000];
+    build_assigned(
+        keys,
+        values,
+        modulus,
+        table,
+        degrees,
+        xors,
+        queue,
+        &mut order,
+        marks,
+        seen,
+    )
+}
+
+// The compact build, likewise.
+pub fn build_compact_small(
+    keys: &[u64],
+    table: &mut [u32],
+    occupancy: &mut [u8],
+    degrees: &mut [u8],
+    xors: &mut [u32],
+    queue: &mut [u32],
+    marks: &mut [u8],
+) -> Built
+    ensures { λ r. ⌜ BuiltCompact (now (keys .entry)) (now (table .entry)) (now (occupancy .entry)) (now (degrees .entry)) (now (xors .entry)) (now (queue .entry)) ownPairs (now (marks .entry)) r (now (table .exit)) (now (occupancy .exit)) (now (degrees .exit)) (now (xors .exit)) (now (queue .exit)) ownPairs (now (marks .exit)) ⌝ }
+{
+    let mut order = [Pair { edge: 0, vert: 0 }; 1000];
+    build_compact(
         keys,
         table,
         occupancy,
         degrees,
         xors,
         queue,
-        edges,
-        verts,
+        &mut order,
         marks,
     )
 }

@@ -5,6 +5,7 @@ pub mod index;
 pub mod lookup;
 pub mod needs;
 pub mod occ;
+pub mod pairs;
 pub mod peel;
 pub mod rank;
 pub mod scratch;

@@ -20,8 +20,7 @@ pub(crate) struct Lengths {
     pub(crate) degrees: usize,
     pub(crate) xors: usize,
     pub(crate) queue: usize,
-    pub(crate) edges: usize,
-    pub(crate) verts: usize,
+    pub(crate) order: usize,
     pub(crate) marks: usize,
     pub(crate) occupancy: usize,
     pub(crate) seen: usize,
@@ -109,12 +108,11 @@ fn lacks_room(need: Needs, lent: Lengths) -> bool
     let degrees = shorter(lent.degrees, need.vertices);
     let xors = shorter(lent.xors, need.vertices);
     let queue = shorter(lent.queue, need.vertices);
-    let edges = shorter(lent.edges, need.order);
-    let verts = shorter(lent.verts, need.order);
+    let order = shorter(lent.order, need.order);
     let marks = shorter(lent.marks, need.vertices);
     let occupancy = shorter(lent.occupancy, need.occupancy);
     let seen = shorter(lent.seen, need.seen);
-    table | (degrees | (xors | (queue | (edges | (verts | (marks | (occupancy | seen)))))))
+    table | (degrees | (xors | (queue | (order | (marks | (occupancy | seen))))))
 }
 
 // The checks of an assigned build before anything is touched.

@@ -28,9 +28,6 @@ shorter-requires-7 c κs = search needs
 shorter-requires-8 : tie.Need-shorter-requires-8
 shorter-requires-8 c κs = search needs
 
-shorter-requires-9 : tie.Need-shorter-requires-9
-shorter-requires-9 c κs = search needs
-
 returns : tie.Need-returns
 unfolding lacksRoom
 returns c = cc
@@ -47,5 +44,4 @@ lacks-room-spec =
     shorter-requires-6
     shorter-requires-7
     shorter-requires-8
-    shorter-requires-9
     returns)
