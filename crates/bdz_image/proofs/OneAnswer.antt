@@ -11,6 +11,7 @@ use Rattle.bdz_image.proofs.open.open_packed.Reads as open-packed
 use Rattle.bdz_image.proofs.page.g_page_need.Reads as g-page-need
 use Rattle.bdz_image.proofs.size.image_len.Reads as image-len
 use Rattle.bdz_image.proofs.size.trailer_off.Reads as trailer-off
+use Rattle.bdz_image.proofs.text.refusal_text.Reads as refusal-text
 use Rattle.bdz_image.proofs.write.write_image.Reads as write-image
 
 pub one-image-len : (κs : _) (a : _) → OneResult (image-len.Post κs a)
@@ -42,3 +43,6 @@ one-feed-ask κs a x y s t p q = p ∙ sym q
 
 pub one-g-page-need : (κs : _) (a : _) → OneResult (g-page-need.Post κs a)
 one-g-page-need κs a x y s t p q = p ∙ sym q
+
+pub one-refusal-text : (κs : _) (a : _) → OneResult (refusal-text.Post κs a)
+one-refusal-text κs a x y s t p q = λ i. record { bytes = (p .1 ∙ sym (q .1)) i; len = (p .0 ∙ sym (q .0)) i }

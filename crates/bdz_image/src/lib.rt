@@ -13,4 +13,5 @@ pub mod size;
 pub mod slot;
 pub mod start;
 pub mod sweep;
+pub mod text;
 pub mod write;

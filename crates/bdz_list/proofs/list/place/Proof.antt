@@ -1,0 +1,30 @@
+-- `bdz_list::list::place` meets its contract. Assumes nothing.
+use Rattle.bdz_list.proofs.Records.{place-compact}
+use borrow.Author.Needs.{needs}
+use Rattle.bdz_list.proofs.list.place.Statement.{statement}
+use Rattle.bdz_list.proofs.list.place.Tie as tie
+
+enum-told : tie.Need-enum-told
+enum-told c = search needs
+
+mul-result : tie.Need-mul-result
+mul-result c = search needs
+
+add-result : tie.Need-add-result
+add-result c = search needs
+
+enum-told-2 : tie.Need-enum-told-2
+enum-told-2 c = search needs
+
+mul-result-2 : tie.Need-mul-result-2
+mul-result-2 c = search needs
+
+returns : tie.Need-returns
+returns c = rw (c .enum-told .given .1)
+
+returns-2 : tie.Need-returns-2
+returns-2 c = rw (c .enum-told2 .given .1) (place-compact _)
+
+pub place-spec : {M : Type 1} → statement M
+place-spec =
+    tie.close (tie.spec enum-told mul-result add-result enum-told-2 mul-result-2 returns returns-2)

@@ -1,0 +1,4 @@
+pub mod List
+pub mod Steps
+pub mod Tally
+pub mod Written
