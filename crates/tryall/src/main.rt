@@ -1,0 +1,325 @@
+// Tries every listed key on the written image: reads keys.lst and index.bdz, feeds the pages of the file and prints two lines, or one
+// refusal. Nothing is printed before all answers are in.
+use bdz_base::refusal::ACCEPTED;
+use bdz_base::refusal::G_LENGTH;
+use bdz_base::refusal::NO_ROOM;
+use bdz_base::verts::Kind;
+use bdz_image::feed::feed_ask;
+use bdz_image::feed::feed_page;
+use bdz_image::feed::feed_start;
+use bdz_image::open::open_compact;
+use bdz_image::open::open_packed;
+use bdz_image::page::g_page_need;
+use bdz_image::size::image_len;
+use bdz_image::size::trailer_off;
+use bdz_image::text::refusal_text;
+use bdz_list::list::Listed;
+use bdz_list::list::read_list;
+use bdz_list::tally::first_holders;
+use bdz_list::tally::same_values;
+use bdz_table::index::Built;
+use bdz_table::index::Index;
+use bdz_table::rank::supers_from_occ_bytes;
+use libc::STDOUT_FILENO;
+
+fn print_some(bytes: &[u8; 18], len: usize) {
+    let all: &[u8] = bytes;
+    if len <= all.len() {
+        io::write_all(STDOUT_FILENO, &all[0..len]);
+    }
+}
+
+// One line, as "refused 8 bad magic".
+fn refuse(no: u32) {
+    let text = refusal_text(no);
+    let len = text.len;
+    let bytes = text.bytes;
+    io::write_all(STDOUT_FILENO, b"refused ");
+    io::print_decimal(STDOUT_FILENO, no as u64);
+    io::write_all(STDOUT_FILENO, b" ");
+    print_some(&bytes, len);
+    io::write_all(STDOUT_FILENO, b"\n");
+}
+
+// The bytes of a file, as many as there is room for; none where it cannot be read.
+fn read_file(path: &[u8], out: &mut [u8]) -> usize {
+    let fd = os::open_read(path);
+    if fd < 0 {
+        return 0;
+    }
+    let n = io::read_full(fd, out);
+    libc::close(fd);
+    if out.len() < n {
+        return 0;
+    }
+    n
+}
+
+// How long a file is, whatever of it was read; 0 where there is none.
+fn file_len(path: &[u8]) -> u64 {
+    let fd = os::open_read(path);
+    if fd < 0 {
+        return 0;
+    }
+    let end = libc::lseek(fd, 0, libc::SEEK_END);
+    libc::close(fd);
+    bytes_to(end)
+}
+
+// A position as a count of bytes; 0 where there was no answer.
+fn bytes_to(end: i64) -> u64 {
+    if end > 0 { end as u64 } else { 0 }
+}
+
+fn say(what: &[u8], number: u64) {
+    io::write_all(STDOUT_FILENO, what);
+    io::print_decimal(STDOUT_FILENO, number);
+}
+
+// The magic, n, m and width of an opened image.
+fn say_image(index: Index) {
+    let kind = index.kind;
+    match kind {
+        Kind::Assigned => say(b"image BDZ2 n=", index.n as u64),
+        Kind::Compact => say(b"image BDZ3 n=", index.n as u64),
+    }
+    say(b" m=", index.m as u64);
+    say(b" bits=", index.width as u64);
+    io::write_all(STDOUT_FILENO, b"\n");
+}
+
+fn say_keys(keys: u64, same: u64) {
+    say(b"keys=", keys);
+    say(b" same=", same);
+    if same <= keys {
+        say(b" other=", keys - same);
+    }
+    io::write_all(STDOUT_FILENO, b"\n");
+}
+
+// The listed pages, from the file; the number of the first that is refused, or 0.
+fn feed_all(
+    index: Index,
+    keys: u64,
+    table: &[u8],
+    pages: &[u32],
+    order: &[u64],
+    slots: &mut [u64],
+) -> u32 {
+    let mut i: usize = 0;
+    while i < pages.len() {
+        let page = pages[i];
+        let no = feed_one(index, keys, table, page, order, slots);
+        if no != ACCEPTED {
+            return no;
+        }
+        i += 1;
+    }
+    ACCEPTED
+}
+
+fn feed_one(
+    index: Index,
+    keys: u64,
+    table: &[u8],
+    page: u32,
+    order: &[u64],
+    slots: &mut [u64],
+) -> u32 {
+    let start = page as u64 * 4096;
+    let need = g_page_need(table.len() as u64, page);
+    if start + need <= table.len() as u64 {
+        let from = start as usize;
+        let to = (start + need) as usize;
+        return feed_page(index, keys, page, &table[from..to], order, slots);
+    }
+    NO_ROOM
+}
+
+// The answer for each key; the number of the first that is refused, or 0.
+fn ask_all(
+    index: Index,
+    keys: &[u64],
+    occ: &[u8],
+    supers: &[u32],
+    slots: &[u64],
+    answers: &mut [u32],
+) -> u32 {
+    let mut i: usize = 0;
+    while i < keys.len() {
+        let asked = feed_ask(index, keys.len() as u64, keys, i as u64, occ, supers, slots);
+        if asked.no != ACCEPTED {
+            return asked.no;
+        }
+        if answers.len() <= i {
+            return NO_ROOM;
+        }
+        answers[i] = asked.answer;
+        i += 1;
+    }
+    ACCEPTED
+}
+
+// A feed over the table's bytes, from its start to the last answer.
+fn answer_all(
+    index: Index,
+    keys: &[u64],
+    table: &[u8],
+    occ: &[u8],
+    supers: &[u32],
+    answers: &mut [u32],
+) -> u32 {
+    let mut order = [0u64; 3000];
+    let mut slots = [0u64; 3000];
+    let mut pages = [0u32; 6000];
+    let feed = feed_start(index, keys, occ, &mut order, &mut slots, &mut pages);
+    if feed.no != ACCEPTED {
+        return feed.no;
+    }
+    let all: &[u32] = &pages;
+    let count = feed.pages as usize;
+    if all.len() < count {
+        return NO_ROOM;
+    }
+    let no = feed_all(index, feed.keys, table, &all[0..count], &order, &mut slots);
+    if no != ACCEPTED {
+        return no;
+    }
+    ask_all(index, keys, occ, supers, &slots, answers)
+}
+
+// How many answers are right.
+fn right(index: Index, values: &[u32], answers: &[u32]) -> u64 {
+    let kind = index.kind;
+    match kind {
+        Kind::Assigned => same_values(values, answers),
+        Kind::Compact => {
+            let mut seen = [0u8; 8193];
+            let n = fewer(index.n, 65537);
+            first_holders(n, answers, &mut seen).count
+        }
+    }
+}
+
+// An answer is at most m, so past that n says nothing.
+fn fewer(a: u32, b: u32) -> u32 {
+    if a < b {
+        return a;
+    }
+    b
+}
+
+// Where the table ends: a compact image has its occupancy behind it.
+fn table_end(index: Index) -> u64 {
+    let kind = index.kind;
+    match kind {
+        Kind::Assigned => image_len(index),
+        Kind::Compact => trailer_off(index),
+    }
+}
+
+// The super counts of a compact image's own occupancy; an assigned one has none.
+fn count_supers(kind: Kind, m: u32, occ: &[u8], supers: &mut [u32]) -> u32 {
+    match kind {
+        Kind::Assigned => ACCEPTED,
+        Kind::Compact => supers_from_occ_bytes(m, occ, supers),
+    }
+}
+
+// Every key on an opened image.
+fn try_index(index: Index, keys: &[u64], values: &[u32], file: &[u8]) {
+    if 65536 < index.m {
+        refuse(NO_ROOM);
+        return;
+    }
+    let behind = table_end(index);
+    let end = image_len(index);
+    if (file.len() as u64) < end {
+        refuse(G_LENGTH);
+        return;
+    }
+    let middle = behind as usize;
+    let last = end as usize;
+    if last < middle {
+        return;
+    }
+    if middle < 32 {
+        return;
+    }
+    try_parts(index, keys, values, &file[32..middle], &file[middle..last]);
+}
+
+fn try_parts(index: Index, keys: &[u64], values: &[u32], table: &[u8], occ: &[u8]) {
+    let kind = index.kind;
+    let mut supers = [0u32; 130];
+    let counted = count_supers(kind, index.m, occ, &mut supers);
+    if counted != ACCEPTED {
+        refuse(counted);
+        return;
+    }
+    let mut answers = [0u32; 1000];
+    let no = answer_all(index, keys, table, occ, &supers, &mut answers);
+    if no != ACCEPTED {
+        refuse(no);
+        return;
+    }
+    let all: &[u32] = &answers;
+    if all.len() < keys.len() {
+        return;
+    }
+    let same = right(index, values, &all[0..keys.len()]);
+    say_image(index);
+    say_keys(keys.len() as u64, same);
+}
+
+fn open_kind(kind: Kind, file: &[u8], len: u64) -> Built {
+    match kind {
+        Kind::Assigned => open_packed(file, len),
+        Kind::Compact => open_compact(file, len),
+    }
+}
+
+// The image is opened by the kind of the list.
+fn try_list(listed: Listed, keys: &[u64], values: &[u32]) {
+    let path = b"index.bdz";
+    let mut file = [0u8; 270368];
+    let kind = listed.kind;
+    let len = file_len(path);
+    let n = read_file(path, &mut file);
+    let view: &[u8] = &file;
+    if view.len() < n {
+        return;
+    }
+    let opened = open_kind(kind, &view[0..n], len);
+    if opened.no != ACCEPTED {
+        refuse(opened.no);
+        return;
+    }
+    try_index(opened.index, keys, values, &view[0..n]);
+}
+
+fn main() {
+    let mut list = [0u8; 14007];
+    let n = read_file(b"keys.lst", &mut list);
+    let mut keys = [0u64; 1000];
+    let mut values = [0u32; 1000];
+    let view: &[u8] = &list;
+    if view.len() < n {
+        return;
+    }
+    let listed = read_list(&view[0..n], &mut keys, &mut values);
+    if listed.no != ACCEPTED {
+        refuse(listed.no);
+        return;
+    }
+    let all: &[u64] = &keys;
+    let every: &[u32] = &values;
+    let count = listed.count as usize;
+    if all.len() < count {
+        return;
+    }
+    if every.len() < count {
+        return;
+    }
+    try_list(listed, &all[0..count], &every[0..count]);
+}
