@@ -3,7 +3,15 @@ SHELL := /bin/bash
 .SHELLFLAGS := -euo pipefail -c
 RUST := cargo run --release --quiet --manifest-path compare/Cargo.toml --bin
 
-.PHONY: test compare record bench demo library
+.PHONY: help test programs compare record bench demo library
+
+help:
+	@echo 'make test      everything that a merge needs: proofs, must-fail edits, programs, comparison with the Rust'
+	@echo 'make demo      both programs on the lists of examples/, and on an image that is cut by one byte'
+	@echo 'make programs  both programs on good, damaged and hostile files'
+	@echo 'make compare   the comparison alone; COMPARE_SEED sets the random inputs'
+	@echo 'make record    the recorded answers of the Rust, made anew'
+	@echo 'make bench     times beside the Rust'
 
 # everything that a merge needs: layout, proofs, must-fail edits, programs, and the comparison with the Rust
 test:
@@ -22,8 +30,14 @@ record: library
 bench: library
 	$(RUST) bench
 
+# both programs on the lists of examples/
 demo:
-	@echo 'The demonstration comes with the programs build_index and tryall, which are not here yet.'
+	@tools/demo
+
+# both programs on good, damaged and hostile files
+programs:
+	@rt check build_index tryall > /dev/null
+	@python3 tools/programs.py
 
 # the static library that the Rust links, from proved code only
 library:

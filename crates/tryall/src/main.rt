@@ -3,6 +3,7 @@
 use bdz_base::refusal::ACCEPTED;
 use bdz_base::refusal::G_LENGTH;
 use bdz_base::refusal::NO_ROOM;
+use bdz_base::size::occ_packed_bytes;
 use bdz_base::verts::Kind;
 use bdz_image::feed::feed_ask;
 use bdz_image::feed::feed_page;
@@ -11,7 +12,6 @@ use bdz_image::open::open_compact;
 use bdz_image::open::open_packed;
 use bdz_image::page::g_page_need;
 use bdz_image::size::image_len;
-use bdz_image::size::trailer_off;
 use bdz_image::text::refusal_text;
 use bdz_list::list::Listed;
 use bdz_list::list::read_list;
@@ -209,12 +209,11 @@ fn fewer(a: u32, b: u32) -> u32 {
     b
 }
 
-// Where the table ends: a compact image has its occupancy behind it.
-fn table_end(index: Index) -> u64 {
-    let kind = index.kind;
+// The bytes of the occupancy, which stand last: only a compact image has them.
+fn occ_len(kind: Kind, m: u32) -> u64 {
     match kind {
-        Kind::Assigned => image_len(index),
-        Kind::Compact => trailer_off(index),
+        Kind::Assigned => 0,
+        Kind::Compact => occ_packed_bytes(m),
     }
 }
 
@@ -232,17 +231,18 @@ fn try_index(index: Index, keys: &[u64], values: &[u32], file: &[u8]) {
         refuse(NO_ROOM);
         return;
     }
-    let behind = table_end(index);
+    let kind = index.kind;
+    let occ = occ_len(kind, index.m);
     let end = image_len(index);
     if (file.len() as u64) < end {
         refuse(G_LENGTH);
         return;
     }
-    let middle = behind as usize;
-    let last = end as usize;
-    if last < middle {
+    if end < occ {
         return;
     }
+    let middle = (end - occ) as usize;
+    let last = end as usize;
     if middle < 32 {
         return;
     }
