@@ -1,7 +1,7 @@
 //! The list of the Rust's answers: only the Rust is asked here, and the list is always the same.
 
 use crate::bdz::{self, BdzMphf};
-use crate::collisions::{crowded_hash, key_of};
+use crate::collisions::{crowded_hash, key_of, Crowd};
 use crate::expressions::{assigned_vertices, LAST_FITTING_N};
 use crate::rng::{edges_u64, Rng};
 
@@ -217,4 +217,23 @@ fn line_of_body(list: &mut List, width: u32, words: &[u32]) {
     numbers.extend(words.iter().map(|&word| u64::from(word)));
     numbers.extend(body.iter().map(|&byte| u64::from(byte)));
     list.line('p', &numbers);
+}
+
+/// A compact key list, as document 01 has it, of keys that peel with the first seed but for `count`
+/// of them that meet on one vertex.
+pub fn crowded_list(count: usize) -> Vec<u8> {
+    let crowd = Crowd {
+        compact: true,
+        place: 1,
+        turned: false,
+        count,
+    };
+    let mut state = 0x9e37_79b9_7f4a_7c15;
+    let first = bdz::splitmix64(&mut state);
+    let mut list = Vec::new();
+    for key in crate::collisions::crowd(&mut Rng::new(SEED), crowd, first) {
+        list.extend_from_slice(b"KC");
+        list.extend_from_slice(&key.to_le_bytes());
+    }
+    list
 }

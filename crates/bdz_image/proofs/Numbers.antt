@@ -1,5 +1,5 @@
--- Document 01's "Numbers to hold it to", the row marked P that this crate's definitions make, and the compact one beside it. Assumes
--- nothing.
+-- Document 01's "Numbers to hold it to": the row marked P that this crate's definitions make, the compact one beside it, and every
+-- row marked P as one statement. Assumes nothing.
 use mathlib.Core.Path.{_≡_, refl}
 use mathlib.Core.List.{List, [], _∷_}
 use Prim.Native.Nat.{ℕ}
@@ -9,6 +9,8 @@ use Rattle.bdz_base.specs.Width.{bitsOf, widthOf}
 use Rattle.bdz_base.specs.declared.verts.Kind.the-variants.{Assigned, Compact}
 use Rattle.bdz_table.specs.Build.{verticesFor, seedFor, indexFor, assignedTable, compactTable, compactOccupancy}
 use Rattle.bdz_table.specs.declared.index.Index.{Index}
+use Rattle.bdz_base.proofs.Numbers.{BaseNumbers, base-numbers}
+use Rattle.bdz_table.proofs.Numbers.{TableNumbers, table-numbers}
 use Rattle.bdz_image.specs.Header.{headerBytes, headerAt}
 use Rattle.bdz_image.specs.Image.{headerOf, bodyOf, imageOf}
 use Rattle.bdz_image.specs.Open.{packedNo, packedIndex, openPacked, openFile}
@@ -40,3 +42,12 @@ pub record ImageNumbers : Type 0 where
 pub image-numbers : ImageNumbers
 unfolding indexFor verticesFor seedFor assignedTable compactTable compactOccupancy imageOf headerBytes headerOf bodyOf packOf bytesOf valueOf widthOf bitsOf openFile openPacked packedNo packedIndex headerAt bitsAt
 image-numbers = record { index = refl; row = refl; opens = refl; compact = λ key. (refl, refl) }
+
+-- "Marked P: proved of the definitions together, as a single statement over the table"
+pub record Numbers : Type 0 where
+  pub base : BaseNumbers
+  pub table : TableNumbers
+  pub image : ImageNumbers
+
+pub numbers : Numbers
+numbers = record { base = base-numbers; table = table-numbers; image = image-numbers }

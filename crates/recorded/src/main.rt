@@ -1,6 +1,7 @@
 // Replays recorded answers: computes the answer of each line of two files again, and prints how many lines are the same.
 mod judge;
 mod lines;
+mod rows;
 
 ghost use mathlib.Core.Path.{_≡_};
 ghost use Prim.Native.Nat.{_<_, _≤_};
@@ -126,8 +127,52 @@ fn replay_file(name: &[u8]) {
     replay_text(name, &buffer[..size]);
 }
 
-// Replays the published vectors, and then the answers of the Rust original.
+// Writes what a row of document 01 is found to be.
+fn print_row(what: &[u8], same: bool) {
+    io::write_all(STDOUT_FILENO, what);
+    if same {
+        io::write_all(STDOUT_FILENO, b": same\n");
+    } else {
+        io::write_all(STDOUT_FILENO, b": differs\n");
+    }
+}
+
+// Replays a row that a file holds the bytes of: a key list, or an image.
+fn replay_bytes(what: &[u8], name: &[u8], list: bool, first: bool) {
+    let file = os::open_read(name);
+    if file < 0 {
+        print_unreadable(name);
+        return;
+    }
+    let mut buffer = [0u8; 14007];
+    let size = io::read_full(file, &mut buffer);
+    libc::close(file);
+    let all: &[u8] = &buffer;
+    if all.len() < size {
+        print_unreadable(name);
+        return;
+    }
+    if list {
+        print_row(what, rows::first_seed(&all[0..size], first));
+    } else {
+        print_row(what, rows::assigned_lengths(&all[0..size]));
+    }
+}
+
+// Replays the rows of document 01 that run.
+fn replay_rows() {
+    print_row(b"one compact key", rows::one_compact_key());
+    print_row(b"compact lengths", rows::compact_lengths());
+    replay_bytes(b"assigned lengths", b"key7.bdz", false, false);
+    print_row(b"largest modulus", rows::largest_modulus());
+    print_row(b"super counts", rows::super_counts());
+    replay_bytes(b"degree 255", b"degree255.lst", true, true);
+    replay_bytes(b"degree 256", b"degree256.lst", true, false);
+}
+
+// Replays the published vectors, the answers of the Rust original, and the rows of document 01.
 fn main() {
     replay_file(b"published.txt");
     replay_file(b"rust.txt");
+    replay_rows();
 }
