@@ -175,6 +175,30 @@ def assign_compact():
     return p
 
 
+def order_legs(p, at, kind, ready, unit, first, assigned):
+    """The legs that both builds have: the order is noted, and when it is assigned the scratch and the order are cleared."""
+
+    def noted(w, at_register, field, name, found, fact):
+        lent = [Lent(p[part], f"_{at_register + 2 * i}") for i, part in enumerate(("xors", "queue", "order"))]
+        w.call(NOTE_ORDER, lent + [READY.field("a", ready, field, name)], unit, found, f"({kind}-{fact})")
+
+    def note(w):
+        noted(w, first, 3, "pairs", "o", f"notes {at['base']}")
+
+    def clear(w):
+        lent = [Lent(p[part], f"_{38 + 2 * i}") for i, part in enumerate(("degrees", "xors", "queue", "marks"))]
+        w.call(CLEAR_SCRATCH, [READY.field("a", ready, 4, "vertices")] + lent, unit, "c", f"({kind}-room {at['base']} {assigned} ({p['marks'].len} ∙ sym {at['marks']}))")
+
+    def again(w):
+        noted(w, 46, 5, "order", "n", f"again {at['base']} {assigned} e-c")
+
+    def answer(w):
+        w.call(ANSWER_OF, [READY.whole("a", ready)], "_0", "b")
+        return (f"({kind}-built {at['base']} {assigned} e-c e-n e-b)", "r-b", BUILT.kept("b"))
+
+    return note, clear, again, answer
+
+
 def build_assigned():
     p = Proof(BUILD_ASSIGNED, [READY_ASSIGNED, NOTE_ORDER, ASSIGN_G, CLEAR_SCRATCH, ANSWER_OF], "A build up to its pairs, the pairs noted and assigned, the scratch cleared, and the pairs with it.", "walks.py", [PAIR, READY, BUILT],
               f"Rattle.bdz_base.specs.declared.verts.Kind.the-variants.{{Assigned}}\n{SPECS}Build.{{BuiltAssigned}}\n{SPECS}Pairs.{{Notes, noted, PairsReady, PairsAssigned}}\n{SPECS}Steps.{{ReadyAssigned, Cleared}}\n"
@@ -188,24 +212,11 @@ def build_assigned():
         at["base"] = "keys values modulus table degrees xors queue order marks seen r-a " + " ".join(atom(p[name].now) for name in lists) + " e-a"
         at["marks"] = p["marks"].len
 
-    def note(w):
-        w.call(NOTE_ORDER, [Lent(p["xors"], "_26"), Lent(p["queue"], "_28"), Lent(p["order"], "_30"), READY.field("a", "_12", 3, "pairs")], "_25", "o", f"(assigned-notes {at['base']})")
-
     def assign(w):
         w.call(ASSIGN_G, [Lent(p["order"], "_32"), READY.field("a", "_12", 3, "pairs"), p["keys"], p["values"], READY.field("a", "_12", 1, "seed"), READY.field("a", "_12", 2, "m"), p.number("modulus"),
                           Lent(p["table"], "_34"), Lent(p["marks"], "_36")], "_25", "g", f"(assigned-pairs {at['base']} e-o, e-a .same)")
 
-    def clear(w):
-        w.call(CLEAR_SCRATCH, [READY.field("a", "_12", 4, "vertices"), Lent(p["degrees"], "_38"), Lent(p["xors"], "_40"), Lent(p["queue"], "_42"), Lent(p["marks"], "_44")], "_25", "c",
-               f"(assigned-room {at['base']} e-o e-g ({p['marks'].len} ∙ sym {at['marks']}))")
-
-    def again(w):
-        w.call(NOTE_ORDER, [Lent(p["xors"], "_46"), Lent(p["queue"], "_48"), Lent(p["order"], "_50"), READY.field("a", "_12", 5, "order")], "_25", "n", f"(assigned-again {at['base']} e-o e-g e-c)")
-
-    def answer(w):
-        w.call(ANSWER_OF, [READY.whole("a", "_12")], "_0", "b")
-        return (f"(assigned-built {at['base']} e-o e-g e-c e-n e-b)", "r-b", BUILT.kept("b"))
-
+    note, clear, again, answer = order_legs(p, at, "assigned", "_12", "_25", 26, "e-o e-g")
     p.legs(["usize", READY] + p.lent(*lists) + ["unit"] + p.shared("xors", "queue") + p.lent("order") + p.shared("order") + p.lent("table", "marks") + p.lent("degrees", "xors", "queue", "marks")
            + p.shared("xors", "queue") + p.lent("order"), [ready, note, assign, clear, again, answer])
     return p
@@ -225,24 +236,11 @@ def build_compact():
         at["base"] = "keys table occupancy degrees xors queue order marks r-a " + " ".join(atom(p[name].now) for name in lists) + " e-a"
         at["marks"] = p["marks"].len
 
-    def note(w):
-        w.call(NOTE_ORDER, [Lent(p["xors"], "_24"), Lent(p["queue"], "_26"), Lent(p["order"], "_28"), READY.field("a", "_10", 3, "pairs")], "_23", "o", f"(compact-notes {at['base']})")
-
     def assign(w):
         w.call(ASSIGN_COMPACT, [Lent(p["order"], "_30"), READY.field("a", "_10", 3, "pairs"), p["keys"], READY.field("a", "_10", 1, "seed"), READY.field("a", "_10", 2, "m"),
                                 Lent(p["table"], "_32"), Lent(p["marks"], "_34"), Lent(p["occupancy"], "_36")], "_23", "g", f"(compact-pairs {at['base']} e-o, compact-bytes {at['base']})")
 
-    def clear(w):
-        w.call(CLEAR_SCRATCH, [READY.field("a", "_10", 4, "vertices"), Lent(p["degrees"], "_38"), Lent(p["xors"], "_40"), Lent(p["queue"], "_42"), Lent(p["marks"], "_44")], "_23", "c",
-               f"(compact-room {at['base']} e-o (e-g .0) (e-g .1) ({p['marks'].len} ∙ sym {at['marks']}))")
-
-    def again(w):
-        w.call(NOTE_ORDER, [Lent(p["xors"], "_46"), Lent(p["queue"], "_48"), Lent(p["order"], "_50"), READY.field("a", "_10", 5, "order")], "_23", "n", f"(compact-again {at['base']} e-o (e-g .0) (e-g .1) e-c)")
-
-    def answer(w):
-        w.call(ANSWER_OF, [READY.whole("a", "_10")], "_0", "b")
-        return (f"(compact-built {at['base']} e-o (e-g .0) (e-g .1) e-c e-n e-b)", "r-b", BUILT.kept("b"))
-
+    note, clear, again, answer = order_legs(p, at, "compact", "_10", "_23", 24, "e-o (e-g .0) (e-g .1)")
     p.legs(["usize", READY] + p.lent(*lists) + ["unit"] + p.shared("xors", "queue") + p.lent("order") + p.shared("order") + p.lent("table", "marks", "occupancy") + p.lent("degrees", "xors", "queue", "marks")
            + p.shared("xors", "queue") + p.lent("order"), [ready, note, assign, clear, again, answer])
     return p
