@@ -33,6 +33,7 @@ use Rattle.bdz_oracle.proofs.imaging.bdz_open_compact.Reads as bdz-open
 use Rattle.bdz_oracle.proofs.imaging.bdz_open_packed.Reads as bdz-open-packed
 use Rattle.bdz_oracle.proofs.imaging.bdz_trailer_off.Reads as bdz-trailer-off
 use Rattle.bdz_oracle.proofs.imaging.bdz_write_image.Reads as bdz-write-image
+use Rattle.bdz_oracle.proofs.listing.bdz_read_list.Reads as bdz-read-list
 use Rattle.bdz_oracle.proofs.looking.bdz_index_batch.Reads as bdz-index-batch
 use Rattle.bdz_oracle.proofs.looking.bdz_index_words.Reads as bdz-index-words
 use Rattle.bdz_oracle.proofs.looking.bdz_popcount_bits.Reads as bdz-popcount-bits
@@ -140,6 +141,10 @@ one-bdz-feed-page κs a x y s t p q = (p .number-is ∙ sym (q .number-is), p .s
 
 pub one-bdz-feed-ask : (κs : _) (a : _) → OneOutcome (λ s. s .1 .1 .1 .1 .1 .1 .1 .1 .1 .1 .1 .1 .0 .now) (bdz-feed-ask.Post κs a)
 one-bdz-feed-ask κs a x y s t p q = (p .number-is ∙ sym (q .number-is), p .answer-is ∙ sym (q .answer-is))
+
+pub one-bdz-read-list : (κs : _) (a : _) → OneOutcome (λ s. (s .1 .0 .now ∷ s .1 .1 .0 .now ∷ s .1 .1 .1 .0 .now ∷ [])) (bdz-read-list.Post κs a)
+one-bdz-read-list κs a x y s t p q =
+    (p .number-is ∙ sym (q .number-is), rw (p .keys-are, p .values-are, p .told-is, q .keys-are, q .values-are, q .told-is))
 
 pub one-bdz-read-keys : (κs : _) (a : _) → OneOutcome (λ s. s .1 .0 .now) (bdz-read-keys.Post κs a)
 one-bdz-read-keys κs a x y s t p q = (p .number-is ∙ sym (q .number-is), p .answer-is ∙ sym (q .answer-is))

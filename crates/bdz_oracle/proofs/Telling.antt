@@ -1,4 +1,4 @@
--- Keys and values read from their bytes, the words of an answer, and the returns of the exported lookup and start of a feed. Assumes nothing.
+-- Keys and values read from their bytes, the words of an answer, and the returns of the exported lookup, start of a feed and list. Assumes nothing.
 use mathlib.Core.Path.{_≡_, refl, ap, _∙_}
 use mathlib.Core.Bool.{true, false}
 use mathlib.Core.List.{List, [], _∷_}
@@ -18,6 +18,9 @@ use Rattle.bdz_image.specs.declared.feed.Feed.{Feed}
 use Rattle.bdz_oracle.specs.Keys.{keyCount, keyAt}
 use Rattle.bdz_oracle.specs.Building.{valueAt, keysIn}
 use Rattle.bdz_oracle.specs.Feeding.{lacksStart, ToldStart}
+use Rattle.bdz_list.specs.List.{ReadList}
+use Rattle.bdz_list.specs.declared.list.Listed.{Listed}
+use Rattle.bdz_oracle.specs.Listing.{lacksTold, toldListed, ToldList}
 use Rattle.bdz_oracle.specs.Looking.{lacksKeys, lookNo, ToldLookup}
 
 -- key i is read from its own eight bytes
@@ -64,6 +67,13 @@ two [] h = absurd (omega arith)
 two (x ∷ []) h = absurd (omega arith)
 two (x ∷ y ∷ old) h = refl
 
+-- the three of a list
+pub three : (old : List ℕ) {a b c : ℕ} → 3 ≤ length old → set (set (set old 0 a) 1 b) 2 c ≡ over (a ∷ b ∷ c ∷ []) old
+three [] h = absurd (omega arith)
+three (x ∷ []) h = absurd (omega arith)
+three (x ∷ y ∷ []) h = absurd (omega arith)
+three (x ∷ y ∷ z ∷ old) h = refl
+
 -- what was read is lent on
 pub read-part : (f : ℕ → ℕ) (n : ℕ) (old : List ℕ) {after : List ℕ} → after ≡ over (tab f n) old → take n after ≡ tab f n
 read-part f n old e = rw e (take-at (tab f n) (drop (length (tab f n)) old) n (length-tab f n))
@@ -109,4 +119,16 @@ some-start index bytes occ keyRoom order slots pages told h k o e =
       slots-are = rw h (opened .slots-are);
       pages-are = rw h (opened .pages-are);
       told-is = rw h (e ∙ ap (λ (x : Feed). over (x .keys ∷ x .pages ∷ []) told) is);
+    }
+
+-- ---- lists
+
+-- the list that is read and told
+pub some-list : (bytes keys values told : List ℕ) {keys′ values′ told′ : List ℕ} {listed : Listed} → lacksTold told ≡ false → ReadList bytes keys values listed keys′ values′ → told′ ≡ over (toldListed listed) told → ToldList bytes keys values told (listed .no) keys′ values′ told′
+some-list bytes keys values told h l e =
+    record {
+      number-is = rw h (ap (λ (x : Listed). x .no) (l .answer-is));
+      keys-are = rw h (l .keys-are);
+      values-are = rw h (l .values-are);
+      told-is = rw h (e ∙ ap (λ (x : Listed). over (toldListed x) told) (l .answer-is));
     }

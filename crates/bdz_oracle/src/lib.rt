@@ -3,6 +3,7 @@ pub mod building;
 pub mod feeding;
 pub mod hashing;
 pub mod imaging;
+pub mod listing;
 pub mod looking;
 pub mod packing;
 pub mod reading;

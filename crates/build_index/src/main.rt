@@ -49,6 +49,7 @@ fn read_file(path: &[u8], out: &mut [u8]) -> usize {
 // Whether both are the same bytes.
 fn same_bytes(a: &[u8], b: &[u8]) -> bool
     ensures { λ r. ⌜ (r ≡ true → now (a .entry) ≡ now (b .entry)) ⌝ }
+    ensures { λ r. ⌜ (now (a .entry) ≡ now (b .entry) → r ≡ true) ⌝ }
 {
     if a.len() != b.len() {
         return false;

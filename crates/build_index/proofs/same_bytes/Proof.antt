@@ -23,7 +23,7 @@ abbrev μ-loop : tie.MeasureT-loop
 μ-loop a b i₀ i = length a - i
 
 returns : tie.Need-returns Inv-loop μ-loop
-returns c e = clash e refl
+returns c = ((λ e. clash e refl), (λ e. absurd (c .if1 .taken (ap length e))))
 
 loop-holds : tie.Need-loop-holds Inv-loop μ-loop
 loop-holds c = (omega arith, c .if1 .left, refl)
@@ -35,7 +35,7 @@ shared-slice-read-if2-2 : tie.Need-shared-slice-read-if2-2 Inv-loop μ-loop
 shared-slice-read-if2-2 c = omega (arith, c .before .before .before .loop .inv .1, c .before .before .loop-test .taken)
 
 returns-2 : tie.Need-returns-2 Inv-loop μ-loop
-returns-2 c e = clash e refl
+returns-2 c = ((λ e. clash e refl), (λ e. absurd (c .if2 .taken (ap (λ (l : List ℕ). getD l (c .before .before .before .before .loop .i) 0) e))))
 
 add-i : tie.Need-add-i Inv-loop μ-loop
 add-i c = search needs
@@ -51,11 +51,11 @@ loop-again c =
     (omega arith, l .inv .1, more (a .a .now) (a .b .now) (l .i) t (l .inv .1) (l .inv .2) (c .if2 .left))
 
 returns-3 : tie.Need-returns-3 Inv-loop μ-loop
-returns-3 c e =
+returns-3 c =
     let a = c .before .before .before .args in
     let l = c .before .loop in
     let left = c .loop-test .left in
-    sym (take-all (l .i) (a .a .now) (omega arith)) ∙ l .inv .2 ∙ take-all (l .i) (a .b .now) (omega (arith, l .inv .1))
+    ((λ e. sym (take-all (l .i) (a .a .now) (omega arith)) ∙ l .inv .2 ∙ take-all (l .i) (a .b .now) (omega (arith, l .inv .1))), (λ e. refl))
 
 pub same-bytes-spec : {M : Type 1} → statement M
 same-bytes-spec =
