@@ -3,7 +3,7 @@ SHELL := /bin/bash
 .SHELLFLAGS := -euo pipefail -c
 RUST := cargo run --release --quiet --manifest-path compare/Cargo.toml --bin
 
-.PHONY: help test programs compare record bench demo library
+.PHONY: help test programs compare record bench demo drawings tried library
 
 help:
 	@echo 'make test      everything that a merge needs: proofs, must-fail edits, programs, comparison with the Rust'
@@ -12,6 +12,8 @@ help:
 	@echo 'make compare   the comparison alone; COMPARE_SEED sets the random inputs'
 	@echo 'make record    the recorded answers of the Rust, made anew'
 	@echo 'make bench     times beside the Rust'
+	@echo 'make drawings  the drawings of docs/, made anew'
+	@echo 'make tried     wrong code for every public function, which the check must refuse: docs/TRIED.md, made anew (an hour)'
 
 # everything that a merge needs: layout, proofs, must-fail edits, programs, and the comparison with the Rust
 test:
@@ -38,6 +40,14 @@ demo:
 programs:
 	@rt check build_index tryall > /dev/null
 	@python3 tools/programs.py
+
+# the drawings of docs/
+drawings:
+	tools/draw
+
+# wrong code for every public function, and where the check refuses it
+tried:
+	python3 tools/tried.py
 
 # the static library that the Rust links, from proved code only
 library:

@@ -4,7 +4,7 @@ use mathlib.Core.List.{List, [], _∷_}
 use Prim.Native.Nat.{ℕ, zero, suc, _+_, _*_, _≤_, _<_}
 use native.Mathlib.Numerals.{add-one}
 use native.Mathlib.Omega.{arith}
-use lib.ListN.{length, getD, set, drop, length-append, length-drop, length-set}
+use lib.ListN.{length, getD, set, drop, length-append, length-set}
 use lib.Seq.{drop-cons, set-at, append-snoc}
 use Rattle.bdz_base.specs.Buffer.{tab, over}
 
@@ -24,9 +24,6 @@ unfolding tab
 tab-more f n old h e =
     rw (length-tab f n, length-tab f (n + 1), drop-cons old n 0 h, set-at (tab f n) (getD old n 0) (drop (suc n) old) _ n (length-tab f n), e, add-one n)
     (sym (append-snoc (tab f n) (f n) (drop (suc n) old)))
-
-pub length-over : {A : Type 0} (new old : List A) → length new ≤ length old → length (over new old) ≡ length old
-length-over new old h = rw (length-append, length-drop) (omega arith)
 
 -- three elements more
 pub tab-three : (f : ℕ → ℕ) (i : ℕ) (old : List ℕ) {x y z : ℕ} → 3 * i + 2 < length old → x ≡ f (3 * i) → y ≡ f (3 * i + 1) → z ≡ f (3 * i + 2) → set (set (set (over (tab f (3 * i)) old) (3 * i) x) (3 * i + 1) y) (3 * i + 2) z ≡ over (tab f (3 * (i + 1))) old

@@ -6,7 +6,7 @@ use native.Mathlib.Nat.{suc-add, div-eq-of-lt, add-comm, add-zero, add-assoc, ad
 use native.Mathlib.Omega.{arith}
 use lib.Pow.{pow-pos, pow-add, pow-mono, shr-shr, high, low, field, mod-pow-add, mod-mod-pow}
 use lib.Arith.{digits-lt}
-use lib.ListN.{length, getD, set, take, drop, length-drop}
+use lib.ListN.{length, getD, take, drop, length-drop}
 use lib.Seq.{take-length}
 use Rattle.bdz_base.specs.Sizes.{tableBytes}
 use Rattle.bdz_base.specs.Pack.{valueOf, bytesOf, packOf, bits, bitsAt, wordAt}

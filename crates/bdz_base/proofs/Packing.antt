@@ -86,9 +86,6 @@ rest-whole {carry} {left} {body} {o} p z =
     let e : (carry .bits + 7) / 8 ≡ carry .bits / 8 = omega (arith, p .bits-left) in
     rw e (p .bytes)
 
-pub rest-room : {carry left : Carry} {body o : List ℕ} → Gave (carry .bits / 8) carry body left o → 0 < left .bits → carry .at + (carry .bits + 7) / 8 ≤ length body → left .at < length body
-rest-room p h r = omega (arith, p .bits-left, p .place)
-
 pub rest-padded : {carry left : Carry} {body o : List ℕ} {b : ℕ} → Gave (carry .bits / 8) carry body left o → 0 < left .bits → left .at < length body → b ≡ left .acc % 2 ^ 8 → set o (left .at) b ≡ take (carry .at) body ++ (bytesOf ((carry .bits + 7) / 8) (carry .acc) ++ drop (carry .at + (carry .bits + 7) / 8) body)
 rest-padded {carry} {left} {body} {o} {b} p h l e =
     let q : (carry .bits + 7) / 8 ≡ suc (carry .bits / 8) = omega (arith, p .bits-left) in

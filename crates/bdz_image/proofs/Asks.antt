@@ -1,7 +1,7 @@
 -- Demand 3, the feed's part: pages in any order, and what is answered when. Assumes nothing.
 use mathlib.Core.Path.{_≡_, refl, sym, ap, _∙_}
 use mathlib.Core.Bool.{cond, Bool, true, false}
-use mathlib.Core.List.{List, [], _∷_}
+use mathlib.Core.List.{List, []}
 use Prim.Native.Nat.{ℕ, _+_, _-_, _*_, _/_, _%_, _^_, _≤_, _<_}
 use native.Mathlib.Nat.{div-eq-of-lt, mod-eq-of-lt, lt-of-lt-of-le}
 use native.Mathlib.Omega.{arith}
@@ -11,15 +11,9 @@ use lib.ListN.{length, getD}
 use borrow.Author.Tests.{eqb-true, eq-eqb}
 use Rattle.bdz_image.specs.Feed.{wordIn, among, slot}
 use Rattle.bdz_image.specs.declared.ask.Words.{Words}
-use Rattle.bdz_image.specs.Ask.{missingAt, askNo, askValue, wordsOf, Came, afterOf}
+use Rattle.bdz_image.specs.Ask.{missingAt, askNo, askValue, wordsOf, Came}
 use Rattle.bdz_image.proofs.Any.{at-start, complete, waits, word-lt}
-use Rattle.bdz_image.proofs.Sweeps.{Ordered, Fed, page-comes}
-
--- any pages, in any order: the slots are told by which pages came
-pub fed-all : (w : ℕ) (body vs order slots : List ℕ) → 0 < w → w ≤ 32 → Ordered vs order → Fed w body vs [] slots → (ps : List ℕ) → Fed w body vs ps (afterOf w body order ps slots)
-unfolding afterOf
-fed-all w body vs order slots z b o f [] = f
-fed-all w body vs order slots z b o f (p ∷ ps) = page-comes w body vs order (afterOf w body order ps slots) ps p z b o (fed-all w body vs order slots z b o f ps)
+use Rattle.bdz_image.proofs.Sweeps.{Fed}
 
 -- fresh slots are those of a feed to which no page came
 pub fresh : (w : ℕ) (body vs slots : List ℕ) → w ≤ 32 → length vs ≤ length slots → ((s : ℕ) → s < length vs → getD slots s 0 ≡ slot (2 ^ w - 1) 0) → Fed w body vs [] slots

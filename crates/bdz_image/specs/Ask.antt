@@ -2,13 +2,12 @@
 use Rattle.bdz_base.specs.Pages.{firstPage, lastPage}
 use mathlib.Core.Path.{_≡_}
 use mathlib.Core.Bool.{cond, true}
-use mathlib.Core.List.{List, [], _∷_}
+use mathlib.Core.List.{List}
 use Prim.Native.Nat.{ℕ, _+_, _*_, _/_, _%_, _^_}
 use lib.Dec.{eqb}
-use lib.ListN.{getD, drop, length}
+use lib.ListN.{getD}
 use Rattle.bdz_image.specs.declared.ask.Words.{Words}
-use Rattle.bdz_image.specs.Feed.{among, pageOf}
-use Rattle.bdz_image.specs.Sweep.{placeOf, sweepOf}
+use Rattle.bdz_image.specs.Feed.{among}
 
 -- what the three slots of a key still miss
 abbrev pub missingAt : List ℕ → ℕ → ℕ
@@ -34,9 +33,3 @@ wordsOf slots i =
 pub record Came (w : ℕ) (ps : List ℕ) (v : ℕ) : Type 0 where
   pub first : among ps (firstPage w v) ≡ true
   pub last : among ps (lastPage w v) ≡ true
-
--- the slots after pages of a body were fed, the last of the list first
-unfoldable pub afterOf : ℕ → List ℕ → List ℕ → List ℕ → List ℕ → List ℕ
-afterOf w body order [] slots = slots
-afterOf w body order (p ∷ ps) slots =
-    sweepOf w p (pageOf body p) (drop (placeOf (length order) order (p * 32768 / w) 0 (length order)) order) (afterOf w body order ps slots)

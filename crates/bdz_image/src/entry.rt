@@ -1,9 +1,9 @@
 // The words that keys wait for.
 ghost use mathlib.Core.Path.{_≡_};
-ghost use Prim.Native.Nat.{_+_, _-_, _*_, _/_, _%_, _^_, _≤_, _<_};
+ghost use Prim.Native.Nat.{_+_, _*_, _^_, _≤_, _<_};
 ghost use lib.ListN.{length};
 ghost use Rattle.bdz_base.specs.Buffer.{tab};
-ghost use Rattle.bdz_image.specs.Entry.{vertexAt, entryAt};
+ghost use Rattle.bdz_image.specs.Entry.{entryAt};
 use bdz_base::verts::Kind;
 use bdz_base::verts::hash_verts;
 

@@ -1,7 +1,7 @@
 // The page feed's public calls.
 ghost use mathlib.Core.Path.{_≡_};
 ghost use lib.ListN.{length};
-ghost use Rattle.bdz_image.specs.Feeding.{feedM, listsNone, listsPages, occupancyNo, feedNo, startRoom, pageEarly, feedOf, Opened, PageFed, superNo, askRoom, finishWords, askedOf};
+ghost use Rattle.bdz_image.specs.Feeding.{feedM, listsNone, listsPages, occupancyNo, feedNo, startRoom, pageEarly, Opened, PageFed, superNo, askRoom, finishWords, askedOf};
 use super::ask::Words;
 use super::ask::ask;
 use super::page::feed;

@@ -1,6 +1,6 @@
 // One page is fed.
 ghost use mathlib.Core.Path.{_≡_};
-ghost use Prim.Native.Nat.{_+_, _-_, _*_, _/_, _%_, _^_, _≤_, _<_};
+ghost use Prim.Native.Nat.{_+_, _-_, _*_, _/_, _≤_, _<_};
 ghost use lib.ListN.{length, getD};
 ghost use Rattle.bdz_image.specs.Page.{missingIn, pageLength, entryNo, pageNo, pageSlots};
 use super::bits::low_bits;

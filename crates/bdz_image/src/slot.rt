@@ -1,7 +1,7 @@
 // A slot: the word of a vertex as far as its pages have come, with the bits still missing above it.
 ghost use mathlib.Core.Path.{_≡_};
 ghost use Prim.Native.Nat.{_+_, _-_, _*_, _/_, _%_, _^_, _≤_, _<_, min};
-ghost use Rattle.bdz_image.specs.Feed.{putLow, putHigh, takenOf, takenLow, takenHigh, cutOf, atOf};
+ghost use Rattle.bdz_image.specs.Feed.{putLow, putHigh, takenOf, takenLow, takenHigh, cutOf};
 use super::bits::bits_at;
 use super::bits::join;
 use super::bits::low_bits;

@@ -1,6 +1,6 @@
 // What a page does to the slots of its words.
 ghost use mathlib.Core.Path.{_≡_};
-ghost use Prim.Native.Nat.{_+_, _-_, _*_, _/_, _%_, _^_, _≤_, _<_};
+ghost use Prim.Native.Nat.{_+_, _-_, _*_, _/_, _≤_, _<_};
 ghost use lib.ListN.{length, drop};
 ghost use Rattle.bdz_image.specs.Sweep.{sweepOf, touchOf, placeOf};
 use super::slot::slot_take;

@@ -15,7 +15,7 @@ use lib.Seq.{take-suc, take-all, getD-set-same, getD-set-other}
 use Rattle.bdz_table.specs.Graph.{has, Distinct, onlyIf}
 use Rattle.bdz_table.specs.Steps.{Places, Added, Full}
 use Rattle.bdz_table.proofs.Fold.{clash}
-use Rattle.bdz_table.proofs.Has.{known, has-head, has-other, has-cons, has-tail, has-append}
+use Rattle.bdz_table.proofs.Has.{known, has-head, has-other, has-tail, has-append}
 
 -- ---- the first j of a list
 
@@ -23,13 +23,6 @@ pub has-getD : (us : List ℕ) (j : ℕ) → j < length us → has (getD us j 0)
 has-getD [] j h = absurd (not-suc-le-zero h)
 has-getD (u ∷ us) zero h = has-head u us
 has-getD (u ∷ us) (suc j) h = has-tail (getD us j 0) u us (has-getD us j (le-of-suc-le-suc h))
-
-pub has-take : (us : List ℕ) (j v : ℕ) → has v (take j us) ≡ true → has v us ≡ true
-unfolding has
-has-take us zero v h = clash h refl
-has-take [] (suc j) v h = clash h refl
-has-take (u ∷ us) (suc j) v h =
-    ⊎-elim (λ q. ap (λ (y : ℕ). has v (y ∷ us)) (sym q) ∙ has-head v us) (λ t. has-tail v u us (has-take us j v t)) (has-cons v u (take j us) h)
 
 pub distinct-take : (us : List ℕ) (j : ℕ) → Distinct us → j < length us → has (getD us j 0) (take j us) ≡ false
 unfolding Distinct has

@@ -7,7 +7,7 @@ use mathlib.Core.List.{List, []}
 use native.Mathlib.Omega.{arith}
 use lib.ListN.{length, getD}
 use Rattle.bdz_table.specs.Graph.{Graph, Crowded}
-use Rattle.bdz_table.specs.Peel.{ones, upTo, peel}
+use Rattle.bdz_table.specs.Peel.{ones, upTo}
 use Rattle.bdz_table.specs.Steps.{Tables, Queued, carrying, CountedOr, Room, Turnable, Turned, PeelAnswer, cutsOf}
 use Rattle.bdz_table.proofs.Fold.{clash}
 use Rattle.bdz_table.proofs.Queue.{peel-yes, peel-no}

@@ -2,7 +2,7 @@
 --     lends-local      the array's cell, with what x owns  ⊢ ⇛ ∃ γ. own (the `&κ′ mut [T]` ((l, 0), γ, n times x)) ∗ the lender's part
 --     local-back       [†κ′] ∗ the lender's part ∗ finally γ zs  ⊢ ⇛ ∃ v. the array's cell at v
 -- Both take `Given`, as every step does. Assumes nothing.
-use mathlib.Core.Path.{_≡_, refl, subst, sym}
+use mathlib.Core.Path.{subst, sym}
 use Prim.Native.Nat.{ℕ}
 use mathlib.Core.List.{List, [], _∷_}
 use lib.ListN.{length, replicate, length-replicate}
@@ -12,10 +12,10 @@ use mir.Syntax.{Ty, Lifetime, tyArray}
 use mir.Raw.{raw as rawTy}
 use mir.Val.{Val, vunit}
 use base.Logic.{ent, sep, ex}
-use base.Fml.{Lft, GName, Share, Fml, fsep, fat, fdead, flent}
+use base.Fml.{Lft, GName, fsep, fat, fdead, flent}
 use prog.Wp.{Heap}
 use ghost.Atoms.{Atoms, sem}
-use types.Kit.{Given, ‵, _⊛_, some, later, _$_, _∵_, !, qed, move, keep, use1, use3, drop, split, pick, fsplit, fjoin, fpick, fpack, await, updating, now as at-once, show, done}
+use types.Kit.{Given, ‵, _⊛_, some, later, _$_, _∵_, !, qed, move, use1, use3, drop, pick, fsplit, fjoin, fpick, fpack, await, updating, now as at-once, show, done}
 use types.SemTy.{cells, Arr}
 use types.Share.{arr-parts}
 use denote.RattleType.{RattleType}

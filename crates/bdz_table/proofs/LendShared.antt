@@ -3,7 +3,7 @@
 --     shares-at        own (the `&κ mut [T]` ((b, o), γ, ys)) ∗ [κ]_q  ⊢ ⇛ ∃ γ₁. own (the `&κ′ [T]` ((b, o), γ₁, ys)) ∗ SharedOut
 --     unshares-at      [†κ′] ∗ SharedOut  ⊢ ⇛ (own (the `&κ mut [T]` ((b, o), γ, ys)) ∗ [κ]_q)
 -- m is the count in the machine value, which is the list's length. All take `Given`, as every step does. Assumes nothing.
-use mathlib.Core.Path.{_≡_, refl, sym, ap, subst}
+use mathlib.Core.Path.{_≡_, refl, sym, subst}
 use Prim.Native.Nat.{ℕ}
 use mathlib.Core.List.{List, [], _∷_}
 use lib.ListN.{length}
@@ -15,7 +15,7 @@ use base.Logic.{ent, sep, ex}
 use base.Fml.{Lft, GName, Share, Fml, fsep, flft, fdead, fobs, fauth, flent, fobor}
 use prog.Wp.{Heap}
 use ghost.Atoms.{Atoms, sem}
-use types.Kit.{Given, ‵, raw, _⊛_, some, later, _$_, _∵_, !, qed, move, use1, drop, split, pick, fsplit, fjoin, feqI, frame, await, updating, now as at-once, show, done}
+use types.Kit.{Given, ‵, _⊛_, some, later, _$_, _∵_, !, qed, move, use1, drop, split, pick, fsplit, fjoin, feqI, frame, await, updating, now as at-once, show, done}
 use types.Tokens.{lent-back}
 use types.Share.{arr-parts}
 use denote.RattleType.{RattleType}

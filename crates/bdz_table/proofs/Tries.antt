@@ -26,11 +26,6 @@ use Rattle.bdz_table.proofs.Counting.{graph-of}
 
 -- ---- one try
 
-any-none : (p : ℕ → Bool) (m : ℕ) → ((v : ℕ) → v < m → p v ≡ false) → anyTo p m ≡ false
-unfolding anyTo
-any-none p zero h = refl
-any-none p (suc m) h = rw (any-none p m (λ v l. h v (omega arith)), h m (omega arith))
-
 any-some : (p : ℕ → Bool) (m v : ℕ) → v < m → p v ≡ true → anyTo p m ≡ true
 unfolding anyTo
 any-some p zero v l h = absurd (not-suc-le-zero l)

@@ -1,6 +1,6 @@
 -- The queue's run, as document 01's peeling paragraph tells it. proofs/Queue has what it means: it removes all keys exactly when
 -- the graph is peelable. Assumes nothing.
-use Prim.Native.Nat.{ℕ, zero, suc, _+_}
+use Prim.Native.Nat.{ℕ, zero, suc}
 use mathlib.Core.Bool.{Bool, true, false}
 use mathlib.Core.List.{List, [], _∷_, _++_}
 use lib.Dec.{eqb, leb}

@@ -5,7 +5,7 @@ ghost use Prim.Native.Nat.{_≤_};
 ghost use lib.ListN.{length, replicate};
 ghost use Rattle.bdz_base.specs.Sizes.{occupancyBytes};
 ghost use Rattle.bdz_base.specs.declared.verts.Kind.the-variants.{Assigned, Compact};
-ghost use Rattle.bdz_table.specs.Build.{assignedTable, compactTable, compactOccupancy, widthFor, builtFor, assignedEarly, compactEarly, lengthsWith, BuiltAssigned, BuiltCompact};
+ghost use Rattle.bdz_table.specs.Build.{assignedTable, compactTable, widthFor, builtFor, assignedEarly, compactEarly, lengthsWith, BuiltAssigned, BuiltCompact};
 ghost use Rattle.bdz_table.specs.Order.{ownPairs};
 ghost use Rattle.bdz_table.specs.Values.{valuesNo};
 ghost use Rattle.bdz_table.specs.Steps.{Many, Shaped, RanTo, SoughtMany, Sought, clearedIf, OccupancySought, untouchedOf, ReadyAssigned, ReadyCompact, Cleared};

@@ -1,6 +1,6 @@
 -- `bdz_table::pairs::pair_at` meets its contract: a walk of its MIR, by hand. The place of `order[i]` is 8 * i past the pointer; the slice is looked into, the pair is copied out of the row, and put back.
 -- Assumes nothing.
-use mathlib.Core.Path.{_≡_, refl, sym}
+use mathlib.Core.Path.{refl, sym}
 use Prim.Native.Nat.{ℕ, _<_, _*_, _^_}
 use native.Mathlib.Omega.{arith}
 use mathlib.Core.List.{List, [], _∷_}

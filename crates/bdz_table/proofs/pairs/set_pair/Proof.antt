@@ -1,6 +1,6 @@
 -- `bdz_table::pairs::set_pair` meets its contract: a walk of its MIR, by hand. The pair is made in a local, the place of `order[i]` is 8 * i past the pointer; the borrow is opened, the pair is stored in its place in the row, and the borrow is closed at the list with the pair in it.
 -- Assumes nothing.
-use mathlib.Core.Path.{_≡_, refl, sym, ap, subst}
+use mathlib.Core.Path.{refl, sym, ap, subst}
 use Prim.Native.Nat.{ℕ, _<_, _*_, _^_}
 use native.Mathlib.Omega.{arith}
 use mathlib.Core.List.{List, [], _∷_}
