@@ -3,26 +3,38 @@ SHELL := /bin/bash
 .SHELLFLAGS := -euo pipefail -c
 RUST := cargo run --release --quiet --manifest-path compare/Cargo.toml --bin
 
-.PHONY: help test programs compare record bench demo drawings tried library
+.PHONY: help test programs compare compare-long attack record bench demo drawings tried library
 
 help:
-	@echo 'make test      everything that a merge needs: proofs, must-fail edits, programs, comparison with the Rust'
-	@echo 'make demo      both programs on the lists of examples/, and on an image that is cut by one byte'
-	@echo 'make programs  both programs on good, damaged and hostile files'
-	@echo 'make compare   the comparison alone; COMPARE_SEED sets the random inputs'
-	@echo 'make record    the recorded answers of the Rust, made anew'
-	@echo 'make bench     times beside the Rust'
-	@echo 'make drawings  the drawings of docs/, made anew'
-	@echo 'make tried     wrong code for every public function, which the check must refuse: docs/TRIED.md, made anew (an hour)'
+	@echo 'make test          everything that a merge needs: proofs, must-fail edits, programs, comparison with the Rust, attack'
+	@echo 'make demo          both programs on the lists of examples/, and on an image that is cut by one byte'
+	@echo 'make programs      both programs on good, damaged and hostile files'
+	@echo 'make compare       the comparison, then the attack; COMPARE_SEED sets the random inputs'
+	@echo 'make attack        hostile inputs to the exports, each call held to a plain model; ATTACK_CALLS sets how many'
+	@echo 'make compare-long  the attack with ten million calls, then ten minutes of the comparison with further seeds'
+	@echo 'make record        the recorded answers of the Rust, made anew'
+	@echo 'make bench         times beside the Rust'
+	@echo 'make drawings      the drawings of docs/, made anew'
+	@echo 'make tried         wrong code for every public function, which the check must refuse: docs/TRIED.md, made anew (an hour)'
 
 # everything that a merge needs: layout, proofs, must-fail edits, programs, and the comparison with the Rust
 test:
 	@tools/test
 
-# bdz.rs, unchanged, beside the proved functions; COMPARE_SEED sets the random inputs
+# bdz.rs, unchanged, beside the proved functions, and then the attack; COMPARE_SEED sets the random inputs
 compare: library
 	cargo test --release --quiet --manifest-path compare/Cargo.toml
 	$(RUST) compare
+	$(RUST) attack
+
+# hostile inputs to the proved functions, each call held to a plain model of document 01; no Rust source is needed
+attack: library
+	$(RUST) attack
+
+# more of both: further calls, and further seeds
+compare-long: library
+	ATTACK_CALLS=10000000 $(RUST) attack
+	COMPARE_MINUTES=10 $(RUST) compare
 
 # the Rust's answers that `recorded` replays, made anew
 record: library

@@ -9,9 +9,9 @@ use crate::ours::{self, FeedIndex, FeedRoom, Question, DONE};
 use crate::rng::Rng;
 use crate::topics::builds::{key_bytes, table_of, Build, Outcome};
 use crate::topics::feed::subject::{rust_pages, rust_vertices};
-use crate::topics::feed::trial::Rooms;
 use crate::topics::lookup::lent;
 use crate::topics::pack::rust_body;
+use crate::trial::Rooms;
 use std::hint::black_box;
 use std::time::{Duration, Instant};
 

@@ -4,8 +4,8 @@
 //! A key is mixed before it is multiplied, and the mixer is a bijection, so the hash is chosen and
 //! the key is what the inverse makes of it.
 
-use crate::bdz::{hash_verts, mix64};
-use crate::expressions::high_product;
+use crate::model::feed::PAGE_BITS;
+use crate::model::hash;
 use crate::rng::Rng;
 
 /// What the assigned kind does with products that meet.
@@ -21,7 +21,7 @@ pub enum Meeting {
 /// The key whose hash under the seed is `hash`.
 pub fn key_of(hash: u64, seed: u64) -> u64 {
     let key = unmix64(hash).wrapping_sub(seed);
-    assert_eq!(mix64(key.wrapping_add(seed)), hash, "no inverse");
+    assert_eq!(hash::hash(key, seed), hash, "no inverse");
     key
 }
 
@@ -72,10 +72,8 @@ pub fn crowded_hash(rng: &mut Rng, m: u32) -> u64 {
 
 /// What the hash asks of the assigned kind, found from the products alone.
 pub fn meetings(hash: u64, m: u32) -> Vec<Meeting> {
-    let place = |rotation| high_product(hash.rotate_left(rotation), u64::from(m));
-    let (first, mut second, mut third) = (place(0), place(21), place(42));
-    let last = u64::from(m) - 1;
-    let next = |at: u64| if at == last { 0 } else { at + 1 };
+    let [first, mut second, mut third] = hash::products(hash, m);
+    let next = |at: u32| if at == m - 1 { 0 } else { at + 1 };
     let mut found = Vec::new();
     if second == first {
         found.push(Meeting::SecondMoves);
@@ -119,6 +117,43 @@ fn factor(compact: bool, m: u32) -> u32 {
         true => m / 3,
         false => m,
     }
+}
+
+/// Keys that meet chosen vertices need an m that is small beside 2^21.
+const CHOSEN: u32 = 1 << 19;
+
+/// The vertices whose words cross from a page to the next; none where keys cannot be chosen.
+pub fn crossing(m: u32, width: u32) -> Vec<u32> {
+    if !(3..=CHOSEN).contains(&m) {
+        return Vec::new();
+    }
+    let width = u64::from(width);
+    let ends = (1..).map(|page| page * PAGE_BITS);
+    ends.map(|end| (end, end / width))
+        .take_while(|&(_, vertex)| vertex < u64::from(m))
+        .filter(|&(end, vertex)| vertex * width < end)
+        .map(|(_, vertex)| vertex as u32)
+        .collect()
+}
+
+/// A key most of whose words are among the crossing ones, as far as its parts have such words.
+pub fn crossing_key(rng: &mut Rng, compact: bool, m: u32, seed: u64, crossing: &[u32]) -> u64 {
+    let size = factor(compact, m);
+    let starts = match compact {
+        true => [0, size, 2 * size],
+        false => [0; 3],
+    };
+    let products = starts.map(|start| {
+        let part = crossing
+            .iter()
+            .filter_map(|vertex| vertex.checked_sub(start));
+        let part: Vec<u32> = part.filter(|&product| product < size).collect();
+        match rng.below(3) {
+            0 | 1 if !part.is_empty() => part[rng.below_usize(part.len())],
+            _ => rng.below(u64::from(size)) as u32,
+        }
+    });
+    key_of(hash_with(rng, products, size), seed)
 }
 
 /// How keys are to meet on one vertex.
@@ -183,7 +218,7 @@ pub fn crowd(rng: &mut Rng, crowd: Crowd, seed: u64) -> Vec<u64> {
 
 /// How many keys the most visited vertex has; and whether each key has a vertex to itself.
 fn degrees(keys: &[u64], compact: bool, seed: u64) -> (usize, bool) {
-    let vertices = |key: &u64| hash_verts(*key, seed, CROWD_VERTICES, compact);
+    let vertices = |key: &u64| hash::vertices(*key, seed, CROWD_VERTICES, compact);
     let mut degrees = vec![0; CROWD_VERTICES as usize];
     for vertex in keys.iter().flat_map(vertices) {
         degrees[vertex as usize] += 1;
@@ -200,16 +235,14 @@ pub fn twins(rng: &mut Rng, compact: bool, m: u32, seeds: &[u64]) -> Vec<u64> {
     let first = rng.next_u64();
     let mut keys = vec![first];
     for &seed in seeds {
-        let hash = mix64(first.wrapping_add(seed));
-        let product = |rotation| high_product(hash.rotate_left(rotation), u64::from(size)) as u32;
-        let products = [0, 21, 42].map(product);
+        let products = hash::products(hash::hash(first, seed), size);
         let twin = loop {
             let twin = key_of(hash_with(rng, products, size), seed);
             if !keys.contains(&twin) {
                 break twin;
             }
         };
-        let vertices = |key| hash_verts(key, seed, m, compact);
+        let vertices = |key| hash::vertices(key, seed, m, compact);
         assert_eq!(vertices(first), vertices(twin), "no twin");
         keys.push(twin);
     }

@@ -152,6 +152,42 @@ impl<T: Item> Fenced<T> {
     }
 }
 
+/// A number that names the kind: 0, or any other number.
+pub fn flag(rng: &mut Rng, compact: bool) -> u32 {
+    match compact {
+        false => 0,
+        true => rng.edge_u32().max(1),
+    }
+}
+
+/// The keys as bytes from any address on, with up to 7 bytes behind them and others around.
+pub struct KeyBytes {
+    bytes: Vec<u8>,
+    start: usize,
+    length: usize,
+}
+
+impl KeyBytes {
+    pub fn new(rng: &mut Rng, keys: &[u64]) -> Self {
+        let start = rng.below_usize(8);
+        let mut bytes = rng.bytes(start);
+        for key in keys {
+            bytes.extend(key.to_le_bytes());
+        }
+        bytes.extend(rng.bytes(16));
+        let length = keys.len() * 8 + rng.below_usize(8);
+        Self {
+            bytes,
+            start,
+            length,
+        }
+    }
+
+    pub fn given(&self) -> &[u8] {
+        &self.bytes[self.start..self.start + self.length]
+    }
+}
+
 /// The same with up to 8 elements of any kind behind, often none.
 pub fn lengthened<T: Item>(rng: &mut Rng, given: &[T]) -> Vec<T> {
     let mut longer = given.to_vec();
@@ -162,6 +198,15 @@ pub fn lengthened<T: Item>(rng: &mut Rng, given: &[T]) -> Vec<T> {
 /// Up to 8, often 0: how much longer than it need be a buffer is.
 pub fn more(rng: &mut Rng) -> usize {
     rng.below(2) as usize * rng.below_usize(9)
+}
+
+/// Lengths that do not suffice: one short, none at all, and any other. There are none where nothing
+/// is needed.
+pub fn shorter(rng: &mut Rng, need: usize) -> Vec<usize> {
+    match need {
+        0 => Vec::new(),
+        _ => vec![need - 1, 0, rng.below_usize(need)],
+    }
 }
 
 /// What stands at a place before a call. It is made anew to judge, so that nothing is kept of a

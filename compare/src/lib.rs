@@ -1,10 +1,16 @@
 //! Compares the proved index with the Rust module it stands for: both are built into one program,
 //! asked the same questions, and must give the same answers.
 
+pub mod attack;
+pub mod collisions;
+pub mod environment;
 pub mod lent;
+pub mod model;
 pub mod ours;
 pub mod rng;
 mod shims;
+pub mod tally;
+pub mod trial;
 
 // What the Rust module asks of the root of its crate.
 pub use shims::{error, file, io_handle, readonly_map, uring_session, IoCtx};
@@ -15,13 +21,9 @@ include!(concat!(env!("OUT_DIR"), "/source.rs"));
 #[cfg(source_at_hand)]
 pub mod benchmark;
 #[cfg(source_at_hand)]
-pub mod collisions;
-#[cfg(source_at_hand)]
 pub mod expressions;
 #[cfg(source_at_hand)]
 pub mod recording;
-#[cfg(source_at_hand)]
-pub mod tally;
 #[cfg(source_at_hand)]
 pub mod topics;
 

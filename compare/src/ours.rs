@@ -42,6 +42,8 @@ pub const PAGE_GIVEN: u32 = 16;
 pub const PAGE_LENGTH: u32 = 17;
 /// The status of a key that is asked for before its pages have come.
 pub const WAITING: u32 = 18;
+/// The status of a key list that is none.
+pub const BAD_LIST: u32 = 19;
 /// The status of a position that is not among a feed's keys.
 pub const NO_SUCH_KEY: u32 = 20;
 
@@ -288,6 +290,16 @@ extern "C" {
         slots: *const u64,
         slots_length: usize,
         told: *mut u32,
+        told_length: usize,
+    ) -> u32;
+    fn bdz_read_list(
+        bytes: *const u8,
+        bytes_length: usize,
+        keys: *mut u64,
+        keys_length: usize,
+        values: *mut u32,
+        values_length: usize,
+        told: *mut u64,
         told_length: usize,
     ) -> u32;
 }
@@ -736,6 +748,22 @@ pub fn feed_ask(index: FeedIndex, question: Question, told: &mut [u32]) -> u32 {
             question.supers.len(),
             question.slots.as_ptr(),
             question.slots.len(),
+            told.as_mut_ptr(),
+            told.len(),
+        )
+    }
+}
+
+/// Reads a key list. Kind (0 assigned, 1 compact), modulus and count are told in three words.
+pub fn read_list(bytes: &[u8], keys: &mut [u64], values: &mut [u32], told: &mut [u64]) -> u32 {
+    unsafe {
+        bdz_read_list(
+            bytes.as_ptr(),
+            bytes.len(),
+            keys.as_mut_ptr(),
+            keys.len(),
+            values.as_mut_ptr(),
+            values.len(),
             told.as_mut_ptr(),
             told.len(),
         )

@@ -82,6 +82,31 @@ impl Rng {
     }
 }
 
+/// Numbers of vertices about the ends of a byte and of the first blocks of an occupancy.
+pub const SIZES: [u32; 11] = [0, 1, 7, 8, 9, 511, 512, 513, 1_023, 1_024, 1_025];
+
+/// How many kinds of occupancies there are.
+pub const OCCUPANCIES: u64 = 5;
+
+/// Bits of a kind that a number chooses: none, all, few, many, or as they come. Those of the last
+/// byte that are not below m are no different from the others.
+pub fn occupancy(rng: &mut Rng, bytes: usize, kind: u64) -> Vec<u8> {
+    let mut joined = |join: fn(u8, u8) -> u8| {
+        let mut byte = || {
+            let four = rng.next_u32().to_le_bytes();
+            four.into_iter().reduce(join).expect("there are four")
+        };
+        (0..bytes).map(|_| byte()).collect()
+    };
+    match kind {
+        0 => vec![0; bytes],
+        1 => vec![0xff; bytes],
+        2 => joined(|a, b| a & b),
+        3 => joined(|a, b| a | b),
+        _ => rng.bytes(bytes),
+    }
+}
+
 /// Every power of two with the numbers beside it, and the ends.
 pub fn edges_u64() -> Vec<u64> {
     let mut edges = vec![0, 1, 2, 3, u64::MAX - 1, u64::MAX];

@@ -2,6 +2,9 @@
 
 use std::fmt::Debug;
 
+/// More numbers than this are counted in a report, and not printed.
+const PRINTED: usize = 500;
+
 /// The name of a comparison and how many inputs of it a run must have at the least.
 pub type Need = (&'static str, u64);
 
@@ -9,7 +12,8 @@ pub struct Difference {
     pub what: &'static str,
     pub input: String,
     pub ours: String,
-    pub rust: String,
+    /// What the other side says, or else what was agreed.
+    pub agreed: String,
 }
 
 #[derive(Default)]
@@ -24,10 +28,10 @@ impl Tally {
         &mut self,
         what: &'static str,
         ours: T,
-        rust: T,
+        agreed: T,
         input: impl FnOnce() -> String,
     ) -> Result<(), Difference> {
-        self.same_all(what, 1, ours, rust, input)
+        self.same_all(what, 1, ours, agreed, input)
     }
 
     /// Compares the answers to a call that has several inputs.
@@ -36,15 +40,15 @@ impl Tally {
         what: &'static str,
         inputs: usize,
         ours: T,
-        rust: T,
+        agreed: T,
         input: impl FnOnce() -> String,
     ) -> Result<(), Difference> {
-        if ours != rust {
+        if ours != agreed {
             return Err(Difference {
                 what,
                 input: input(),
                 ours: format!("{ours:x?}"),
-                rust: format!("{rust:x?}"),
+                agreed: format!("{agreed:x?}"),
             });
         }
         add(&mut self.compared, what, inputs as u64);
@@ -60,6 +64,16 @@ impl Tally {
         self.all()
             .find(|(name, _)| *name == what)
             .map_or(0, |(_, count)| *count)
+    }
+
+    /// Takes the counts of another run in.
+    pub fn add_all(&mut self, other: &Self) {
+        for (what, count) in &other.compared {
+            add(&mut self.compared, what, *count);
+        }
+        for (case, count) in &other.noticed {
+            add(&mut self.noticed, case, *count);
+        }
     }
 
     /// Fails where a comparison was made too seldom or stands in no list of needs: a run that
@@ -100,5 +114,13 @@ fn add(counts: &mut Vec<(&'static str, u64)>, what: &'static str, inputs: u64) {
     match counts.iter_mut().find(|(name, _)| *name == what) {
         Some((_, count)) => *count += inputs,
         None => counts.push((what, inputs)),
+    }
+}
+
+/// For a report: all numbers, or the first of many.
+pub fn listed<T: Debug>(what: &str, numbers: &[T]) -> String {
+    match numbers.len() {
+        count @ 0..=PRINTED => format!("{count} {what} {numbers:x?}"),
+        count => format!("{count} {what}, the first {:x?}", &numbers[..4]),
     }
 }

@@ -1,15 +1,15 @@
-//! The comparison of feeds finds what is wrong: it passes a plain feed that stands in for ours, and
-//! not the same feed with any one of these faults.
-#![cfg(source_at_hand)]
+//! The attack on feeds finds what is wrong, and so does the comparison of feeds with the Rust: each
+//! passes a plain feed that stands in for ours, and not the same feed with any one of these faults.
 
-use compare::bdz;
+use compare::attack::feeding;
+use compare::model::{hash, rank};
 use compare::ours::{
     FeedIndex, FeedRoom, Question, BAD_WIDTH, DONE, MOST, NO_ROOM, NO_SUCH_KEY, OCC_TRUNCATED,
     PAGE_GIVEN, PAGE_LENGTH, PAGE_NOT_LISTED, TOO_LARGE, WAITING, ZERO_MODULUS,
 };
 use compare::rng::Rng;
-use compare::tally::Tally;
-use compare::topics::feed::{self, trial::Calls};
+use compare::tally::{Difference, Tally};
+use compare::trial::Calls;
 
 const NO_FAULT: u32 = 0;
 /// Takes the first page and nods at the others.
@@ -129,7 +129,7 @@ fn start<const FAULT: u32>(keys: &[u8], index: FeedIndex, occupancy: &[u8], room
     }
     for (at, &key) in room.key_room[..count].iter().enumerate() {
         let compact = index.compact != 0;
-        let vertices = bdz::hash_verts(key, index.seed, words::<FAULT>(index), compact);
+        let vertices = hash::vertices(key, index.seed, words::<FAULT>(index), compact);
         for (part, vertex) in vertices.into_iter().enumerate() {
             room.order[3 * at + part] = u64::from(vertex) << 32 | (3 * at + part) as u64;
         }
@@ -288,10 +288,10 @@ fn ask<const FAULT: u32>(index: FeedIndex, question: Question, told: &mut [u32])
         (0, _) => (sum % u64::from(index.modulus)) as u32,
         _ => {
             let key = lent[position as usize];
-            let vertices = bdz::hash_verts(key, index.seed, index.m, true);
+            let vertices = hash::vertices(key, index.seed, index.m, true);
             let vertex = vertices[(sum % 3) as usize] as usize;
             let block = vertex / 512;
-            let ones = bdz::popcount_bits(occupancy, 512 * block, vertex);
+            let ones = rank::ones(occupancy, 512 * block..vertex);
             let rank = supers
                 .get(block)
                 .map_or(0, |count| count.wrapping_add(ones));
@@ -312,20 +312,30 @@ fn calls<const FAULT: u32>() -> Calls {
     }
 }
 
-/// What the comparison finds first, if it finds anything.
-fn found(calls: Calls) -> Option<String> {
-    let compared = feed::once(&mut Tally::default(), &mut Rng::new(1), calls);
-    let difference = compared.err()?;
+/// What a run finds first, if it finds anything.
+type Find = fn(Calls) -> Option<String>;
+
+fn first_found(ended: Result<(), Difference>) -> Option<String> {
+    let difference = ended.err()?;
     Some(format!("{}, {}", difference.what, difference.ours))
 }
 
-#[test]
-fn a_feed_without_fault_passes() {
-    assert_eq!(found(calls::<NO_FAULT>()), None);
+/// One round of the attack.
+fn attacked(calls: Calls) -> Option<String> {
+    let (mut tally, mut rng) = (Tally::default(), Rng::new(1));
+    first_found(feeding::run(&mut tally, &mut rng, calls, 0))
 }
 
-#[test]
-fn every_fault_is_found() {
+/// One round of the comparison.
+#[cfg(source_at_hand)]
+fn compared(calls: Calls) -> Option<String> {
+    let (mut tally, mut rng) = (Tally::default(), Rng::new(1));
+    first_found(compare::topics::feed::once(&mut tally, &mut rng, calls))
+}
+
+/// The feed without fault passes, and every fault is found.
+fn finds_the_faulty(found: Find) {
+    assert_eq!(found(calls::<NO_FAULT>()), None);
     let faulty = [
         (NODS, calls::<NODS>()),
         (TWO_WORDS, calls::<TWO_WORDS>()),
@@ -355,4 +365,15 @@ fn every_fault_is_found() {
     for (fault, calls) in faulty {
         assert!(found(calls).is_some(), "fault {fault} is not found");
     }
+}
+
+#[test]
+fn the_attack_finds_every_fault() {
+    finds_the_faulty(attacked);
+}
+
+#[cfg(source_at_hand)]
+#[test]
+fn the_comparison_finds_every_fault() {
+    finds_the_faulty(compared);
 }

@@ -1,12 +1,11 @@
 //! Audits: the ones of an occupancy, and whether they are n.
 
-use super::builds::listed;
-use super::ranks::{needs, occupancy, shorter, OCCUPANCIES, SIZES};
 use super::Topic;
-use crate::lent::{lengthened, more, Fenced, Left, Lent};
+use crate::lent::{lengthened, more, shorter, Fenced, Left, Lent};
+use crate::model::rank::needs;
 use crate::ours::{self, DONE, NO_ROOM, OCC_TRUNCATED};
-use crate::rng::Rng;
-use crate::tally::{Difference, Tally};
+use crate::rng::{occupancy, Rng, OCCUPANCIES, SIZES};
+use crate::tally::{listed, Difference, Tally};
 
 /// The answer: the ones, and 1 where they are n.
 const ANSWER: usize = 2;

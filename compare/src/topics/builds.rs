@@ -10,15 +10,12 @@ use crate::ours::{
     NOT_PEELED, NO_ROOM, TOO_LARGE,
 };
 use crate::rng::{edges_u64, Rng};
-use crate::tally::{Difference, Tally};
-use std::fmt::Debug;
+use crate::tally::{listed, Difference, Tally};
 
 /// Every number of keys up to this is tried.
 pub const SMALL: usize = 200;
 /// How many sets of keys each of them has.
 pub const SETS: u64 = 6;
-/// More keys than this are counted in a report, and not printed.
-const PRINTED: usize = 500;
 
 /// What a build is asked.
 #[derive(Clone, Copy)]
@@ -141,14 +138,6 @@ fn vertices(compact: bool, n: usize) -> u32 {
     match compact {
         true => bdz::compact_vertex_count(n as u32),
         false => assigned_vertices(n as u32) as u32,
-    }
-}
-
-/// For a report: all numbers, or the first of many.
-pub fn listed<T: Debug>(what: &str, numbers: &[T]) -> String {
-    match numbers.len() {
-        count @ 0..=PRINTED => format!("{count} {what} {numbers:x?}"),
-        count => format!("{count} {what}, the first {:x?}", &numbers[..4]),
     }
 }
 

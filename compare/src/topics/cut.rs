@@ -1,12 +1,13 @@
 //! Every cut of an image: what is left is refused, and the whole opens to what was written.
 
-use super::files::{Folder, HEADER};
+use super::files::Folder;
 use super::images::{built, our_image};
 use super::lookup::Record;
 use super::openings::check;
 use super::Topic;
 use crate::bdz;
 use crate::lent::Loan;
+use crate::model::image::HEADER;
 use crate::ours::{DONE, G_LENGTH, SHORT_PREAD};
 use crate::rng::Rng;
 use crate::tally::{Difference, Tally};

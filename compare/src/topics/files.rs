@@ -1,16 +1,14 @@
 //! The Rust's images are files: the folder that holds them, and what the Rust writes to it and
 //! reads from it.
 
-use crate::bdz::{self, BdzMphf, GStore};
+use crate::bdz::{BdzMphf, GStore};
 use crate::error::StoreError;
 use crate::lent::Loan;
+use crate::model::image::{Opened, HEADER};
 use crate::ours::{BAD_MAGIC, BAD_VERSION, BAD_WIDTH, DONE, G_LENGTH, SHORT_PREAD, ZERO_MODULUS};
 use std::fs::{self, File};
 use std::os::unix::fs::FileExt;
 use std::path::PathBuf;
-
-/// The bytes of a header of either kind.
-pub const HEADER: usize = bdz::HEADER_LEN2 as usize;
 
 /// A folder of its own for one topic of one run. It goes when it is dropped, also after a failure.
 pub struct Folder {
@@ -90,13 +88,6 @@ impl Drop for Folder {
             eprintln!("{} is left behind: {error}", self.path.display());
         }
     }
-}
-
-/// What an opening comes to: the refusal, and n, m, seed, modulus and width, or five zeros.
-#[derive(Clone, Copy, PartialEq, Debug)]
-pub struct Opened {
-    pub refusal: u32,
-    pub answer: [u64; Loan::ANSWER],
 }
 
 impl Opened {

@@ -1,18 +1,18 @@
 //! Looking keys up: in indexes that were built, and in such as no build makes.
 
 use super::build_assigned::{different, some_modulus};
-use super::builds::{listed, set_of_keys, table_of, SETS, SMALL};
+use super::builds::{set_of_keys, table_of, SETS, SMALL};
 use super::pack::words;
-use super::ranks::{self, rust_rank, shorter, wrapped_rank, OCCUPANCIES};
-use super::verts::{flag, KeyBytes};
+use super::ranks::{rust_rank, wrapped_rank};
 use super::Topic;
 use crate::bdz::{self, BdzMphf, GStore};
 use crate::collisions::{crowded_hash, key_of};
 use crate::error::StoreError;
-use crate::lent::{lengthened, more, Fenced, Left, Lent};
+use crate::lent::{flag, lengthened, more, shorter, Fenced, KeyBytes, Left, Lent};
+use crate::model::rank;
 use crate::ours::{self, Index, DONE, NO_ROOM, OCC_TRUNCATED, ZERO_MODULUS};
-use crate::rng::Rng;
-use crate::tally::{Difference, Tally};
+use crate::rng::{occupancy, Rng, OCCUPANCIES, SIZES};
+use crate::tally::{listed, Difference, Tally};
 use crate::IoCtx;
 
 /// Numbers of keys over `SMALL`, each of them with one index of either kind.
@@ -171,7 +171,7 @@ impl Record {
     /// Document 01: "no keys accepted; 14 (answers); n = 0 answers 0; n = 1; 11 (m or modulus 0);
     /// 12; 14". Before that the keys need a room of their own, since they come as bytes.
     fn agreed_status(&self, keys: usize, room: Room) -> u32 {
-        let (bytes, supers) = ranks::needs(self.m);
+        let (bytes, supers) = rank::needs(self.m);
         if room.keys < keys {
             NO_ROOM
         } else if keys == 0 {
@@ -475,7 +475,7 @@ pub fn some_keys(rng: &mut Rng, record: &Record, count: usize) -> Vec<u64> {
 /// Every m up to 70, about the ends of blocks, and others; most of them are no multiple of 3.
 pub fn sizes(rng: &mut Rng) -> Vec<u32> {
     let mut sizes: Vec<u32> = (1..=70).collect();
-    sizes.extend(ranks::SIZES.iter().filter(|&&m| m > 70));
+    sizes.extend(SIZES.iter().filter(|&&m| m > 70));
     sizes.extend((0..20).map(|_| 71 + rng.below(3_000) as u32));
     sizes
 }
@@ -484,11 +484,11 @@ pub fn sizes(rng: &mut Rng) -> Vec<u32> {
 /// sums wrap, any bits, and super counts of them or of others.
 pub fn made(rng: &mut Rng, compact: bool, m: u32) -> Record {
     let (bytes, supers) = match compact {
-        true => ranks::needs(m),
+        true => rank::needs(m),
         false => (0, 0),
     };
     let kind = rng.below(OCCUPANCIES);
-    let occupancy = ranks::occupancy(rng, bytes, kind);
+    let occupancy = occupancy(rng, bytes, kind);
     let supers = match rng.below(2) {
         0 if compact => bdz::supers_from_occ_bytes(&occupancy, m).into_vec(),
         _ => words(rng, supers),
@@ -573,7 +573,7 @@ fn short_buffers(
 
 /// The same index with too little lent, and the status of that.
 fn short_records(rng: &mut Rng, record: &Record) -> Vec<(&'static str, Record, u32)> {
-    let (bytes, supers) = ranks::needs(record.m);
+    let (bytes, supers) = rank::needs(record.m);
     let mut cases = Vec::new();
     for length in shorter(rng, record.m as usize) {
         let mut short = record.lengthened(rng);

@@ -1,12 +1,15 @@
 //! Opening images: whole ones, and such as have a damaged header or another length, beside the
 //! Rust's openings of a file.
 
-use super::files::{Folder, Opened, HEADER};
+use super::files::Folder;
 use super::images::{built, our_image};
 use super::lookup::{made, Record};
 use super::Topic;
 use crate::bdz;
 use crate::lent::{more, Fenced, Left, Lent, Loan};
+use crate::model::image::{
+    asked, get, put, Opened, FIELDS, HEADER, M, MAGIC, MODULUS, N, VERSION, WIDTH,
+};
 use crate::ours::{
     self, BAD_MAGIC, BAD_VERSION, BAD_WIDTH, DONE, G_LENGTH, NO_ROOM, SHORT_PREAD, ZERO_MODULUS,
 };
@@ -70,48 +73,11 @@ fn records(rng: &mut Rng, compact: bool) -> Vec<Record> {
     records
 }
 
-/// A field of a header: where it starts, and its bytes.
-type Field = (usize, usize);
-
-const MAGIC: Field = (0, 4);
-const VERSION: Field = (4, 4);
-const N: Field = (8, 4);
-const M: Field = (12, 4);
-const SEED: Field = (16, 8);
-const MODULUS: Field = (24, 4);
-const WIDTH: Field = (28, 4);
-const FIELDS: [Field; 7] = [MAGIC, VERSION, N, M, SEED, MODULUS, WIDTH];
-
-fn get(header: &[u8], (start, length): Field) -> u64 {
-    let mut whole = [0; 8];
-    whole[..length].copy_from_slice(&header[start..start + length]);
-    u64::from_le_bytes(whole)
-}
-
-fn put(header: &mut [u8], (start, length): Field, value: u64) {
-    header[start..start + length].copy_from_slice(&value.to_le_bytes()[..length]);
-}
-
 /// A field's own value is damaged to these, as far as they fit. The last one makes a magic that of
 /// the other kind.
 fn damages(rng: &mut Rng, own: u64) -> [u64; 7] {
     let (before, after) = (own.wrapping_sub(1), own.wrapping_add(1));
     [0, 1, before, after, u64::MAX, rng.next_u64(), own ^ 1 << 24]
-}
-
-/// How many bytes a header asks for, if it is not refused before it is asked.
-fn asked(compact: bool, header: &[u8]) -> u64 {
-    let [n, m, width] = [N, M, WIDTH].map(|field| get(header, field) as u32);
-    let m = match n {
-        0 => 0,
-        1 => 1,
-        _ => m,
-    };
-    let occupancy = match compact {
-        true => bdz::occ_packed_bytes(m),
-        false => 0,
-    };
-    HEADER as u64 + bdz::packed_g_bytes(m, width.min(32)) + occupancy
 }
 
 /// One short of what the header asks for, exactly that, and longer.

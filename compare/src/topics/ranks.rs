@@ -1,17 +1,15 @@
 //! The ones of an occupancy: between two places, before each block of 512 bits, and below a vertex.
 
-use super::builds::listed;
 use super::pack::words;
 use super::unpack::window_start;
 use super::Topic;
 use crate::bdz::{self, CompactRank, OccBits, RANK_SUPER_BITS};
-use crate::lent::{lengthened, Fenced, Left, Lent};
+use crate::lent::{lengthened, shorter, Fenced, Left, Lent};
+use crate::model::rank::needs;
 use crate::ours::{self, DONE, NO_ROOM, OCC_TRUNCATED};
-use crate::rng::Rng;
-use crate::tally::{Difference, Tally};
+use crate::rng::{occupancy, Rng, OCCUPANCIES, SIZES};
+use crate::tally::{listed, Difference, Tally};
 
-/// About the ends of a byte and of the first blocks.
-pub const SIZES: [u32; 11] = [0, 1, 7, 8, 9, 511, 512, 513, 1_023, 1_024, 1_025];
 /// Sizes up to this are drawn besides.
 const LARGEST: u64 = 4_000;
 const DRAWN: usize = 60;
@@ -60,33 +58,6 @@ fn run(tally: &mut Tally, rng: &mut Rng) -> Result<(), Difference> {
         super_counts(tally, rng, LONG, &occupancy)?;
     }
     Ok(())
-}
-
-/// How many kinds of occupancies there are.
-pub const OCCUPANCIES: u64 = 5;
-
-/// Bits of a kind that a number chooses: none, all, few, many, or as they come. Those of the last
-/// byte that are not below m are no different from the others.
-pub fn occupancy(rng: &mut Rng, bytes: usize, kind: u64) -> Vec<u8> {
-    let mut joined = |join: fn(u8, u8) -> u8| {
-        let mut byte = || {
-            let four = rng.next_u32().to_le_bytes();
-            four.into_iter().reduce(join).expect("there are four")
-        };
-        (0..bytes).map(|_| byte()).collect()
-    };
-    match kind {
-        0 => vec![0; bytes],
-        1 => vec![0xff; bytes],
-        2 => joined(|a, b| a & b),
-        3 => joined(|a, b| a | b),
-        _ => rng.bytes(bytes),
-    }
-}
-
-/// Document 01: an occupancy of m bits has ceil(m/8) bytes and ceil(m/512)+1 super counts.
-pub fn needs(m: u32) -> (usize, usize) {
-    (m.div_ceil(8) as usize, m.div_ceil(512) as usize + 1)
 }
 
 /// The Rust's form of what is lent: it keeps the same bytes in words.
@@ -309,15 +280,6 @@ fn short_buffers(
         refuse(tally, rng, what, m, &longer, room, NO_ROOM)?;
     }
     Ok(())
-}
-
-/// Lengths that do not suffice: one short, none at all, and any other. There are none where nothing
-/// is needed.
-pub fn shorter(rng: &mut Rng, need: usize) -> Vec<usize> {
-    match need {
-        0 => Vec::new(),
-        _ => vec![need - 1, 0, rng.below_usize(need)],
-    }
 }
 
 /// Neither the super counts nor a rank by them.

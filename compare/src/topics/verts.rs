@@ -3,6 +3,7 @@
 use super::Topic;
 use crate::bdz;
 use crate::collisions::{crowded_hash, key_of, meetings, Meeting};
+use crate::lent::{flag, KeyBytes};
 use crate::ours::{self, DONE, NO_ROOM};
 use crate::rng::{edges_u32, edges_u64, Rng};
 use crate::tally::{Difference, Tally};
@@ -160,42 +161,6 @@ fn rust_verts(kind: Kind, key: u64, seed: u64, m: u32) -> [u32; 3] {
     };
     assert_eq!(own, common, "the Rust differs from itself");
     own
-}
-
-/// A number that names the kind: 0, or any other number.
-pub fn flag(rng: &mut Rng, compact: bool) -> u32 {
-    match compact {
-        false => 0,
-        true => rng.edge_u32().max(1),
-    }
-}
-
-/// The keys as bytes from any address on, with up to 7 bytes behind them and others around.
-pub struct KeyBytes {
-    bytes: Vec<u8>,
-    start: usize,
-    length: usize,
-}
-
-impl KeyBytes {
-    pub fn new(rng: &mut Rng, keys: &[u64]) -> Self {
-        let start = rng.below_usize(8);
-        let mut bytes = rng.bytes(start);
-        for key in keys {
-            bytes.extend(key.to_le_bytes());
-        }
-        bytes.extend(rng.bytes(16));
-        let length = keys.len() * 8 + rng.below_usize(8);
-        Self {
-            bytes,
-            start,
-            length,
-        }
-    }
-
-    pub fn given(&self) -> &[u8] {
-        &self.bytes[self.start..self.start + self.length]
-    }
 }
 
 /// Words on each side of what a call is given, which it must leave alone.

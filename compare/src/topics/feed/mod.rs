@@ -1,27 +1,26 @@
 //! Feeding pages: lists of pages, words and answers beside the Rust's scatter of the same pages, in
 //! shuffled orders and, of few pages, in every order; and all that a feed refuses.
 
-mod model;
 mod refusals;
 pub mod subject;
-pub mod trial;
 
 use super::build_assigned::different;
-use super::builds::{listed, set_of_keys, table_of, SETS};
+use super::builds::{set_of_keys, table_of, SETS};
 use super::files::Folder;
 use super::images::our_image;
 use super::lookup::{drawn, rust_answers};
 use super::pack::words;
 use super::Topic;
 use crate::bdz::{self, BdzMphf};
+use crate::model::feed::PAGE_BITS;
 use crate::ours::{DONE, MOST, PAGE_GIVEN, PAGE_LENGTH, PAGE_NOT_LISTED, WAITING};
 use crate::rng::Rng;
-use crate::tally::{Difference, Tally};
+use crate::tally::{listed, Difference, Tally};
+use crate::trial::{orders, Calls, Case, Trial};
 use crate::uring_session::UringSession;
 use crate::IoCtx;
 use refusals::{altered, hostile, largest_compact, short_buffers, ALTERED, RECORDS};
-use subject::{Scatter, Sides, Subject, PAGE_BITS};
-use trial::{Calls, Case, Trial};
+use subject::{Feeding, Scatter, Subject};
 
 /// Rounds of everything that is quick.
 const ROUNDS: u64 = 12;
@@ -248,9 +247,8 @@ fn shuffled_feed(
     subject: &Subject,
     keys: &[u64],
 ) -> Result<Vec<u32>, Difference> {
-    let sides = Sides::of(rng, &subject.record);
-    let case = sides.case(calls, subject.index(), keys);
-    let (mut trial, mut scatter) = begin(tally, rng, subject, case)?;
+    let feeding = Feeding::of(rng, calls, subject, keys);
+    let (mut trial, mut scatter) = begin(tally, rng, subject, feeding.case())?;
     ask(tally, rng, "asked unfed", &trial, &scatter)?;
     let mut pages = trial.listed();
     rng.shuffle(&mut pages);
@@ -424,10 +422,9 @@ fn few(
     subject: &Subject,
     keys: &[u64],
 ) -> Result<Vec<u32>, Difference> {
-    let sides = Sides::of(rng, &subject.record);
-    let case = sides.case(calls, subject.index(), keys);
+    let feeding = Feeding::of(rng, calls, subject, keys);
     let what = "feeds of no key or one";
-    let mut trial = Trial::begin(tally, rng, what, case)?;
+    let mut trial = Trial::begin(tally, rng, what, feeding.case())?;
     let rust = rust_answers(&subject.record.rust(), keys);
     let pages: &[u32] = match (subject.record.n, subject.record.compact, keys) {
         (1, false, [_, ..]) => &[0],
@@ -483,22 +480,6 @@ fn one_key(
     Ok(())
 }
 
-/// All orders of these.
-fn orders(pages: &[u32]) -> Vec<Vec<u32>> {
-    let Some((&first, others)) = pages.split_first() else {
-        return vec![Vec::new()];
-    };
-    let mut all = Vec::new();
-    for order in orders(others) {
-        for place in 0..=order.len() {
-            let mut longer = order.clone();
-            longer.insert(place, first);
-            all.push(longer);
-        }
-    }
-    all
-}
-
 /// Feeds the pages in every order; all keys are asked at every step.
 fn every_order(
     tally: &mut Tally,
@@ -507,10 +488,9 @@ fn every_order(
     subject: &Subject,
     keys: &[u64],
 ) -> Result<(), Difference> {
-    let sides = Sides::of(rng, &subject.record);
-    let case = sides.case(calls, subject.index(), keys);
+    let feeding = Feeding::of(rng, calls, subject, keys);
     for order in orders(&Scatter::new(subject, keys).pages) {
-        let (mut trial, mut scatter) = begin(tally, rng, subject, case)?;
+        let (mut trial, mut scatter) = begin(tally, rng, subject, feeding.case())?;
         feed_pages(tally, rng, subject, &mut trial, &mut scatter, &order)?;
         whole(tally, rng, subject, &trial, &scatter, keys)?;
         tally.notice(match order.len() {
@@ -559,7 +539,8 @@ fn made_orders(
     every_order(tally, rng, calls, &subject, &keys)
 }
 
-/// Of a written image: the assigned ones have a width at which words cross.
+/// Of a written image: the assigned ones have a width at which words cross. Its own keys need not
+/// meet such a word, so that half of those that are fed are strangers.
 fn built_orders(
     tally: &mut Tally,
     rng: &mut Rng,
@@ -580,8 +561,11 @@ fn built_orders(
     };
     let subject = Subject::opened(&record, &our_image(&record));
     let draw = |rng: &mut Rng| {
-        let any = (0..ORDERED_KEYS).map(|_| all[rng.below_usize(all.len())]);
-        any.collect()
+        let mut keys = subject.keys(rng, ORDERED_KEYS);
+        for key in keys.iter_mut().step_by(2) {
+            *key = all[rng.below_usize(all.len())];
+        }
+        keys
     };
     let keys = keys_of_pages(rng, &subject, pages, draw);
     every_order(tally, rng, calls, &subject, &keys)

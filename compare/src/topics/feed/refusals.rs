@@ -1,11 +1,12 @@
 //! What a feed refuses, and what it must stand: short buffers, numbers at their ends, and a caller
 //! that writes into it.
 
-use super::model::{page_status, AskLengths};
-use super::subject::{Sides, Subject};
-use super::trial::{AskCall, Calls, Case, PageCall, Rooms, Trial};
+use super::subject::{Feeding, Subject};
 use super::{positions, some_size, WIDTHS};
 use crate::bdz;
+use crate::lent::shorter;
+use crate::model::feed::{page_status, AskLengths};
+use crate::model::rank;
 use crate::ours::{
     FeedIndex, BAD_WIDTH, DONE, MOST, NO_ROOM, NO_SUCH_KEY, OCC_TRUNCATED, TOO_LARGE, ZERO_MODULUS,
 };
@@ -13,7 +14,7 @@ use crate::rng::Rng;
 use crate::tally::{Difference, Tally};
 use crate::topics::lookup::{made, Record};
 use crate::topics::pack::words;
-use crate::topics::ranks::{self, shorter};
+use crate::trial::{AskCall, Calls, Case, PageCall, Rooms, Trial};
 
 /// Feeds that are altered in a round, of either kind.
 pub const ALTERED: u64 = 150;
@@ -46,9 +47,8 @@ fn short_starts(
     subject: &Subject,
     keys: &[u64],
 ) -> Result<(), Difference> {
-    let index = subject.index();
-    let sides = Sides::of(rng, &subject.record);
-    let case = sides.case(calls, index, keys);
+    let feeding = Feeding::of(rng, calls, subject, keys);
+    let case = feeding.case();
     for short in 0..Rooms::COUNT {
         let need = *Rooms::exact(keys.len()).all_mut()[short];
         for length in shorter(rng, need) {
@@ -60,7 +60,7 @@ fn short_starts(
         }
     }
     if subject.record.compact {
-        for length in shorter(rng, ranks::needs(subject.record.m).0) {
+        for length in shorter(rng, rank::needs(subject.record.m).0) {
             let short = Case {
                 occupancy: &case.occupancy[..length],
                 ..case
@@ -87,9 +87,8 @@ fn short_calls(
     subject: &Subject,
     keys: &[u64],
 ) -> Result<(), Difference> {
-    let sides = Sides::of(rng, &subject.record);
-    let case = sides.case(calls, subject.index(), keys);
-    let mut trial = Trial::begin(tally, rng, "starts", case)?;
+    let feeding = Feeding::of(rng, calls, subject, keys);
+    let mut trial = Trial::begin(tally, rng, "starts", feeding.case())?;
     let mut pages = trial.listed();
     rng.shuffle(&mut pages);
     let last = pages.pop().expect("pages are listed");
@@ -158,7 +157,7 @@ fn short_asks(
             refuse(what, with(&|lengths| lengths.slots = length), NO_ROOM)?;
         }
         if subject.record.compact {
-            let (bytes, supers) = ranks::needs(subject.record.m);
+            let (bytes, supers) = rank::needs(subject.record.m);
             let what = "super counts too short";
             for length in [0, supers - 1] {
                 refuse(what, with(&|lengths| lengths.supers = length), NO_ROOM)?;
@@ -235,14 +234,14 @@ fn hostile_feed(
 ) -> Result<(), Difference> {
     let keys: Vec<u64> = (0..count).map(|_| rng.edge_u64()).collect();
     // As much as is needed for a small m, and too little for the largest.
-    let (bytes, counts) = ranks::needs(index.m.min(8));
+    let (bytes, counts) = rank::needs(index.m.min(8));
     let record = Record {
         occupancy: rng.bytes(bytes),
         supers: words(rng, counts),
         ..made(rng, false, 1)
     };
-    let sides = Sides::of(rng, &record);
-    let case = sides.case(calls, index, &keys);
+    let feeding = Feeding::with(rng, calls, index, &record, &keys);
+    let case = feeding.case();
     let what = "hostile starts";
     let mut rooms = Rooms::enough(rng, count);
     for room in rooms.all_mut() {
@@ -322,9 +321,8 @@ pub fn altered(
     let subject = Subject::made(rng, compact, width, m);
     let count = 1 + rng.below_usize(20);
     let keys = subject.keys(rng, count);
-    let sides = Sides::of(rng, &subject.record);
-    let case = sides.case(calls, subject.index(), &keys);
-    let mut trial = Trial::begin(tally, rng, "starts", case)?;
+    let feeding = Feeding::of(rng, calls, &subject, &keys);
+    let mut trial = Trial::begin(tally, rng, "starts", feeding.case())?;
     let pages = trial.listed();
     for _ in 0..8 {
         if rng.below(3) > 0 {
@@ -362,7 +360,7 @@ pub fn altered(
 /// The occupancy of the largest m takes half a GiB, which is never written and so takes no memory.
 pub fn largest_compact(tally: &mut Tally, rng: &mut Rng, calls: Calls) -> Result<(), Difference> {
     let m = u32::MAX;
-    let (bytes, counts) = ranks::needs(m);
+    let (bytes, counts) = rank::needs(m);
     let (occupancy, supers) = (vec![0; bytes], vec![0; counts]);
     for width in [1, 2, 31, 32] {
         let index = FeedIndex {

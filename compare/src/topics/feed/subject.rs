@@ -1,21 +1,16 @@
 //! What is fed: indexes that were built or made by hand, keys for them, and the Rust's scatter of the
 //! same pages.
 
-use super::trial::{Calls, Case};
 use crate::bdz::{self, BdzMphf, GPageScatter};
-use crate::collisions::{hash_with, key_of};
+use crate::collisions::{crossing, crossing_key};
 use crate::lent::{Fenced, Loan};
+use crate::model::{image::HEADER, rank};
 use crate::ours::{self, FeedIndex, DONE};
-use crate::rng::Rng;
-use crate::topics::files::HEADER;
+use crate::rng::{occupancy, Rng, OCCUPANCIES};
 use crate::topics::lookup::{made, some_keys, wrapped_at, Record};
 use crate::topics::pack::{rust_body, words};
-use crate::topics::ranks::{self, OCCUPANCIES};
+use crate::trial::{Calls, Case};
 use std::collections::BTreeSet;
-
-pub const PAGE_BITS: u64 = 8 * bdz::G_PAGE_BYTES as u64;
-/// Keys that meet chosen vertices need an m that is small beside 2^21.
-const CHOSEN: u32 = 1 << 19;
 
 /// An index to feed. Its table is empty where that is not kept.
 pub struct Subject {
@@ -54,9 +49,9 @@ impl Subject {
             ..made(rng, compact, 1)
         };
         if compact {
-            let (bytes, supers) = ranks::needs(m);
+            let (bytes, supers) = rank::needs(m);
             let kind = rng.below(OCCUPANCIES);
-            record.occupancy = ranks::occupancy(rng, bytes, kind);
+            record.occupancy = occupancy(rng, bytes, kind);
             record.supers = words(rng, supers);
         }
         Self {
@@ -77,7 +72,7 @@ impl Subject {
         assert_eq!(status, DONE, "a written image is refused");
         let [n, m, _, modulus, width] = answer.map(|number| number as u32);
         let (body, occupancy) = image[HEADER..].split_at(bdz::packed_g_bytes(m, width) as usize);
-        let mut supers = vec![0; ranks::needs(m).1];
+        let mut supers = vec![0; rank::needs(m).1];
         if record.compact {
             let status = ours::supers_from_occ_bytes(m, occupancy, &mut supers);
             assert_eq!(status, DONE, "no super counts");
@@ -128,74 +123,62 @@ impl Subject {
 
     /// Keys of all kinds: half of them meet words that cross from page to page, and some are equal.
     pub fn keys(&self, rng: &mut Rng, count: usize) -> Vec<u64> {
-        let crossing = self.crossing();
+        let Record {
+            compact, m, seed, ..
+        } = self.record;
+        let crossing = crossing(m, self.width);
         let mut keys = some_keys(rng, &self.record, count);
         for at in 0..count {
             match rng.below(8) {
                 0 => keys[at] = keys[rng.below_usize(at + 1)],
-                1..=4 if !crossing.is_empty() => keys[at] = self.crossing_key(rng, &crossing),
+                1..=4 if !crossing.is_empty() => {
+                    keys[at] = crossing_key(rng, compact, m, seed, &crossing);
+                }
                 _ => (),
             }
         }
         keys
     }
-
-    /// The vertices whose words cross from a page to the next; none where keys cannot be chosen.
-    fn crossing(&self) -> Vec<u32> {
-        if self.record.m > CHOSEN || self.record.m < 3 {
-            return Vec::new();
-        }
-        let width = u64::from(self.width);
-        let ends = (1..).map(|page| page * PAGE_BITS);
-        ends.map(|end| (end, end / width))
-            .take_while(|&(_, vertex)| vertex < u64::from(self.record.m))
-            .filter(|&(end, vertex)| vertex * width < end)
-            .map(|(_, vertex)| vertex as u32)
-            .collect()
-    }
-
-    /// A key most of whose words cross, as far as its parts have such words.
-    fn crossing_key(&self, rng: &mut Rng, crossing: &[u32]) -> u64 {
-        let m = self.record.m;
-        let (size, starts) = match self.record.compact {
-            true => (m / 3, [0, m / 3, m / 3 * 2]),
-            false => (m, [0; 3]),
-        };
-        let products = starts.map(|start| {
-            let part = crossing
-                .iter()
-                .filter_map(|vertex| vertex.checked_sub(start));
-            let part: Vec<u32> = part.filter(|&product| product < size).collect();
-            match rng.below(3) {
-                0 | 1 if !part.is_empty() => part[rng.below_usize(part.len())],
-                _ => rng.below(u64::from(size)) as u32,
-            }
-        });
-        key_of(hash_with(rng, products, size), self.record.seed)
-    }
 }
 
-/// What is lent of a subject, with other elements around.
-pub struct Sides {
+/// A feed to start, with other elements around what is lent to it.
+pub struct Feeding<'a> {
+    calls: Calls,
+    index: FeedIndex,
+    keys: &'a [u64],
     occupancy: Fenced<u8>,
     supers: Fenced<u32>,
 }
 
-impl Sides {
-    /// Exactly what is needed, or more.
-    pub fn of(rng: &mut Rng, record: &Record) -> Self {
+impl<'a> Feeding<'a> {
+    /// Of a subject: exactly what is needed, or more.
+    pub fn of(rng: &mut Rng, calls: Calls, subject: &Subject, keys: &'a [u64]) -> Self {
+        Self::with(rng, calls, subject.index(), &subject.record, keys)
+    }
+
+    /// Of an index that need not be the record's, which only lends to it.
+    pub fn with(
+        rng: &mut Rng,
+        calls: Calls,
+        index: FeedIndex,
+        record: &Record,
+        keys: &'a [u64],
+    ) -> Self {
         let record = record.lengthened(rng);
         Self {
+            calls,
+            index,
+            keys,
             occupancy: Fenced::new(rng, &record.occupancy),
             supers: Fenced::new(rng, &record.supers),
         }
     }
 
-    pub fn case<'a>(&'a self, calls: Calls, index: FeedIndex, keys: &'a [u64]) -> Case<'a> {
+    pub fn case(&self) -> Case<'_> {
         Case {
-            calls,
-            index,
-            keys,
+            calls: self.calls,
+            index: self.index,
+            keys: self.keys,
             occupancy: self.occupancy.given(),
             supers: self.supers.given(),
         }

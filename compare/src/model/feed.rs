@@ -1,18 +1,16 @@
-//! The page feed as document 01 tells it, kept in the plainest way: the pages that came, and every
-//! bit of a word looked up in them by itself. It shares nothing with either side but the vertices,
-//! which are the Rust's.
+//! The page feed, kept in the plainest way: the pages that came, and every bit of a word looked up in
+//! them by itself.
 
-use crate::bdz;
+use super::{hash, image, rank};
 use crate::ours::{
     FeedIndex, BAD_WIDTH, DONE, MOST, NO_ROOM, NO_SUCH_KEY, OCC_TRUNCATED, PAGE_GIVEN, PAGE_LENGTH,
     PAGE_NOT_LISTED, TOO_LARGE, WAITING, ZERO_MODULUS,
 };
-use crate::topics::ranks;
 use std::collections::{BTreeMap, BTreeSet};
 
-/// The bits of a page.
-const PAGE_BITS: u64 = 8 * PAGE_BYTES;
-const PAGE_BYTES: u64 = 4_096;
+/// "Pages are 4,096 bytes of the packed table".
+pub const PAGE_BYTES: u64 = 4_096;
+pub const PAGE_BITS: u64 = 8 * PAGE_BYTES;
 
 /// What a start is lent: the bytes of the occupancy, and the elements of the buffers.
 #[derive(Clone, Copy, Debug)]
@@ -51,7 +49,7 @@ fn common(index: FeedIndex, keys: u64, occupancy: usize, last: u32) -> u32 {
         last
     } else if index.m == 0 || index.modulus == 0 {
         ZERO_MODULUS
-    } else if compact && occupancy < ranks::needs(index.m).0 {
+    } else if compact && occupancy < rank::needs(index.m).0 {
         OCC_TRUNCATED
     } else {
         last
@@ -78,7 +76,7 @@ pub fn start_status(index: FeedIndex, keys: usize, lengths: StartLengths) -> u32
 pub fn ask_status(index: FeedIndex, keys: u64, position: u64, lengths: AskLengths) -> u32 {
     let supers = match index.compact {
         0 => 0,
-        _ => ranks::needs(index.m).1,
+        _ => rank::needs(index.m).1,
     };
     let last = if keys > u64::from(MOST) {
         TOO_LARGE
@@ -134,7 +132,7 @@ impl Feed {
         let vertices = match listing {
             true => keys
                 .iter()
-                .flat_map(|&key| bdz::hash_verts(key, index.seed, words, compact))
+                .flat_map(|&key| hash::vertices(key, index.seed, words, compact))
                 .collect(),
             false => Vec::new(),
         };
@@ -198,7 +196,7 @@ impl Feed {
 
     /// "The last has what is left, from 1 byte to 4,096"; behind it a page has none.
     pub fn page_bytes(&self, page: u32) -> usize {
-        let table = (u64::from(self.words) * u64::from(self.index.width)).div_ceil(8);
+        let table = image::table_bytes(self.words, self.index.width);
         let start = u64::from(page) * PAGE_BYTES;
         table.saturating_sub(start).min(PAGE_BYTES) as usize
     }
@@ -249,16 +247,12 @@ impl Feed {
         if self.index.compact == 0 {
             return Ok(sum % self.index.modulus);
         }
-        let vertex = self.vertices[3 * position + sum as usize % 3] as usize;
-        let block = vertex / 512;
-        let bit = |at: usize| u32::from(occupancy[at / 8] >> (at % 8) & 1);
-        let ones: u32 = (512 * block..vertex).map(bit).sum();
-        let rank = supers[block].wrapping_add(ones);
-        Ok(rank.min(self.index.n - 1))
+        let vertex = self.vertices[3 * position + sum as usize % 3];
+        Ok(rank::answer(occupancy, supers, vertex, self.index.n))
     }
 }
 
 /// The page of a bit, and which of the page's bits it is.
-fn page_of(bit: u64) -> (u32, u64) {
+pub fn page_of(bit: u64) -> (u32, u64) {
     ((bit / PAGE_BITS) as u32, bit % PAGE_BITS)
 }

@@ -1,16 +1,14 @@
 //! A feed in dirty buffers, held to the model at every call. The calls are ours, or stand in for
 //! them where the comparison itself is tried.
 
-use super::model::{ask_status, page_status, start_status, AskLengths, Feed, StartLengths};
-use crate::lent::{lengthened, more, Fenced, Left, Lent};
+use crate::lent::{flag, lengthened, more, Fenced, KeyBytes, Left, Lent};
+use crate::model::feed::{ask_status, page_status, start_status, AskLengths, Feed, StartLengths};
 use crate::ours::{
     self, FeedIndex, FeedRoom, Question, DONE, NO_ROOM, PAGE_GIVEN, PAGE_LENGTH, PAGE_NOT_LISTED,
     WAITING,
 };
 use crate::rng::Rng;
-use crate::tally::{Difference, Tally};
-use crate::topics::builds::listed;
-use crate::topics::verts::{flag, KeyBytes};
+use crate::tally::{listed, Difference, Tally};
 
 type Start = fn(&[u8], FeedIndex, &[u8], FeedRoom) -> u32;
 type Page = fn(FeedIndex, u64, u32, &[u8], &[u64], &mut [u64]) -> u32;
@@ -97,6 +95,89 @@ impl Rooms {
     }
 }
 
+/// What a start is lent, dirty.
+struct Buffers {
+    key_room: Lent<u64>,
+    order: Lent<u64>,
+    slots: Lent<u64>,
+    pages: Lent<u32>,
+    told: Lent<u64>,
+}
+
+impl Buffers {
+    fn new(rng: &mut Rng, rooms: Rooms) -> Self {
+        Self {
+            key_room: Lent::new(rng, rooms.key_room),
+            order: Lent::new(rng, rooms.order),
+            slots: Lent::new(rng, rooms.slots),
+            pages: Lent::new(rng, rooms.pages),
+            told: Lent::new(rng, rooms.told),
+        }
+    }
+
+    fn room(&mut self) -> FeedRoom<'_> {
+        FeedRoom {
+            key_room: self.key_room.given_mut(),
+            order: self.order.given_mut(),
+            slots: self.slots.given_mut(),
+            pages: self.pages.given_mut(),
+            told: self.told.given_mut(),
+        }
+    }
+
+    /// The first element that is not left as it must be, of those buffers that only a start is lent.
+    fn fault(&self, keys: &[u64], agreed: &Agreed) -> Option<String> {
+        let mut listing = agreed.model.as_ref().map_or(Vec::new(), Feed::listed);
+        let told = match agreed.status {
+            DONE => [keys.len() as u64, listing.len() as u64],
+            _ => [0; Rooms::TOLD],
+        };
+        if !listing.is_empty() {
+            listing.resize(6 * keys.len(), 0);
+        }
+        let (read, answered) = match agreed.unread {
+            true => (Left::Untouched, Left::Untouched),
+            false => (Left::New(keys), Left::New(&told[..])),
+        };
+        self.key_room
+            .fault("key_room", read)
+            .or_else(|| self.told.fault("told", answered))
+            .or_else(|| self.pages.fault("pages", Left::New(&listing)))
+    }
+}
+
+/// What a start must come to.
+struct Agreed {
+    status: u32,
+    /// The keys come as bytes and need a room of their own, which is tested before all else, together
+    /// with the room for what is told.
+    unread: bool,
+    /// None where the start is refused.
+    model: Option<Feed>,
+}
+
+impl Agreed {
+    fn of(case: Case, rooms: Rooms) -> Self {
+        let count = case.keys.len();
+        let lengths = StartLengths {
+            occupancy: case.occupancy.len(),
+            order: rooms.order,
+            slots: rooms.slots,
+            pages: rooms.pages,
+        };
+        let unread = rooms.key_room < count || rooms.told < Rooms::TOLD;
+        let status = match unread {
+            true => NO_ROOM,
+            false => start_status(case.index, count, lengths),
+        };
+        Self {
+            status,
+            unread,
+            model: (status == DONE).then(|| Feed::new(case.index, case.keys)),
+        }
+    }
+}
+
 /// A page to feed, the number of keys that is named with it, and how much is lent of the feed.
 #[derive(Clone, Copy)]
 pub struct PageCall<'a> {
@@ -155,69 +236,26 @@ impl<'a> Trial<'a> {
         case: Case<'a>,
         rooms: Rooms,
     ) -> Result<Self, Difference> {
-        let count = case.keys.len();
         let bytes = KeyBytes::new(rng, case.keys);
-        let mut key_room = Lent::new(rng, rooms.key_room);
-        let mut order = Lent::new(rng, rooms.order);
-        let mut slots = Lent::new(rng, rooms.slots);
-        let mut pages = Lent::new(rng, rooms.pages);
-        let mut told = Lent::new(rng, rooms.told);
-        let status = (case.calls.start)(
-            bytes.given(),
-            case.index(rng),
-            case.occupancy,
-            FeedRoom {
-                key_room: key_room.given_mut(),
-                order: order.given_mut(),
-                slots: slots.given_mut(),
-                pages: pages.given_mut(),
-                told: told.given_mut(),
-            },
-        );
-        let lengths = StartLengths {
-            occupancy: case.occupancy.len(),
-            order: rooms.order,
-            slots: rooms.slots,
-            pages: rooms.pages,
-        };
-        // The keys come as bytes and need a room of their own, which is tested before all else.
-        let unread = rooms.key_room < count || rooms.told < Rooms::TOLD;
-        let agreed = match unread {
-            true => NO_ROOM,
-            false => start_status(case.index, count, lengths),
-        };
-        let model = (agreed == DONE).then(|| Feed::new(case.index, case.keys));
-        let mut listing = model.as_ref().map_or(Vec::new(), Feed::listed);
-        let answer = match agreed {
-            DONE => [count as u64, listing.len() as u64],
-            _ => [0; Rooms::TOLD],
-        };
-        let sorted = model.as_ref().map_or(Vec::new(), Feed::order);
-        if !listing.is_empty() {
-            listing.resize(6 * count, 0);
-        }
-        let (read, answered) = match unread {
-            true => (Left::Untouched, Left::Untouched),
-            false => (Left::New(case.keys), Left::New(&answer[..])),
-        };
-        let fault = key_room
-            .fault("key_room", read)
-            .or_else(|| told.fault("told", answered))
-            .or_else(|| pages.fault("pages", Left::New(&listing)));
+        let mut lent = Buffers::new(rng, rooms);
+        let index = case.index(rng);
+        let status = (case.calls.start)(bytes.given(), index, case.occupancy, lent.room());
+        let agreed = Agreed::of(case, rooms);
+        let fault = lent.fault(case.keys, &agreed);
         let again = lengthened(rng, case.keys);
         let trial = Self {
             case,
-            status: agreed,
-            model,
-            order,
-            slots,
-            sorted,
+            status: agreed.status,
+            sorted: agreed.model.as_ref().map_or(Vec::new(), Feed::order),
+            model: agreed.model,
+            order: lent.order,
+            slots: lent.slots,
             lent: Fenced::new(rng, &again),
             fed: Vec::new(),
             altered: false,
         };
         let fault = fault.or_else(|| trial.fault());
-        tally.same(what, (status, fault), (agreed, None), || {
+        tally.same(what, (status, fault), (trial.status, None), || {
             format!("{}, the start in buffers {rooms:?}", trial.describe())
         })?;
         Ok(trial)
@@ -369,51 +407,48 @@ impl<'a> Trial<'a> {
         what: &'static str,
         call: AskCall,
     ) -> Result<Result<u32, u32>, Difference> {
-        let Case {
-            keys,
-            occupancy,
-            supers,
-            ..
-        } = self.case;
         let index = self.case.index(rng);
-        let AskLengths {
-            lent,
-            occupancy: bytes,
-            supers: counts,
-            slots,
-        } = call.lengths;
-        let question = Question {
-            keys: call.keys,
-            lent: &self.lent.given()[..lent],
-            position: call.position,
-            occupancy: &occupancy[..bytes],
-            supers: &supers[..counts],
-            slots: &self.slots.given()[..slots],
-        };
         let mut told = Lent::new(rng, call.told);
-        let status = (self.case.calls.ask)(index, question, told.given_mut());
-        if call.told == 0 {
-            let fault = told.fault("told", Left::Untouched);
-            tally.same(what, (status, fault), (NO_ROOM, None), || {
-                self.describe_ask(call)
-            })?;
-            return Ok(Err(NO_ROOM));
-        }
-        let claimed = !self.altered && call.position < keys.len() as u64;
+        let status = (self.case.calls.ask)(index, self.question(call), told.given_mut());
         let expected = match ask_status(index, call.keys, call.position, call.lengths) {
-            DONE => match self.model.as_ref().filter(|_| claimed) {
-                Some(model) => model.answer(call.position as usize, occupancy, supers),
+            _ if call.told == 0 => Err(NO_ROOM),
+            DONE => match self.claimed(call.position) {
+                Some(model) => {
+                    let Case {
+                        occupancy, supers, ..
+                    } = self.case;
+                    model.answer(call.position as usize, occupancy, supers)
+                }
                 None => return self.unclaimed_ask(tally, what, call, status, &told),
             },
             early => Err(early),
         };
         let agreed = expected.map_or_else(|refusal| refusal, |_| DONE);
         let answer = [expected.unwrap_or(0)];
-        let fault = told.fault("told", Left::New(&answer));
+        let fault = told.fault("told", Left::New(&answer[..call.told.min(1)]));
         tally.same(what, (status, fault), (agreed, None), || {
             self.describe_ask(call)
         })?;
         Ok(expected)
+    }
+
+    /// What is lent with a call.
+    fn question(&self, call: AskCall) -> Question<'_> {
+        let lengths = call.lengths;
+        Question {
+            keys: call.keys,
+            lent: &self.lent.given()[..lengths.lent],
+            position: call.position,
+            occupancy: &self.case.occupancy[..lengths.occupancy],
+            supers: &self.case.supers[..lengths.supers],
+            slots: &self.slots.given()[..lengths.slots],
+        }
+    }
+
+    /// The model, where it says what a position comes to.
+    fn claimed(&self, position: u64) -> Option<&Feed> {
+        let claimed = !self.altered && position < self.case.keys.len() as u64;
+        self.model.as_ref().filter(|_| claimed)
     }
 
     /// Where the caller wrote into the slots only this is claimed: the call ends, waits or answers,
@@ -517,4 +552,20 @@ impl<'a> Trial<'a> {
     fn describe_ask(&self, call: AskCall) -> String {
         format!("{}, fed with {:?}, {call:?}", self.describe(), self.fed)
     }
+}
+
+/// All orders of these.
+pub fn orders(pages: &[u32]) -> Vec<Vec<u32>> {
+    let Some((&first, others)) = pages.split_first() else {
+        return vec![Vec::new()];
+    };
+    let mut all = Vec::new();
+    for order in orders(others) {
+        for place in 0..=order.len() {
+            let mut longer = order.clone();
+            longer.insert(place, first);
+            all.push(longer);
+        }
+    }
+    all
 }
