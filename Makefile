@@ -3,7 +3,7 @@ SHELL := /bin/bash
 .SHELLFLAGS := -euo pipefail -c
 RUST := cargo run --release --quiet --manifest-path compare/Cargo.toml --bin
 
-.PHONY: help test programs compare compare-long attack record bench demo drawings tried library
+.PHONY: help test programs compare compare-long attack record bench bench-cmph benchmarks demo drawings tried library
 
 help:
 	@echo 'make test          everything that a merge needs: proofs, must-fail edits, programs, comparison with the Rust, attack'
@@ -14,6 +14,8 @@ help:
 	@echo 'make compare-long  the attack with ten million calls, then ten minutes of the comparison with further seeds'
 	@echo 'make record        the recorded answers of the Rust, made anew'
 	@echo 'make bench         times beside the Rust'
+	@echo 'make bench-cmph    times beside libcmph, where it is installed'
+	@echo 'make benchmarks    both, and docs/BENCHMARKS.md with them'
 	@echo 'make drawings      the drawings of docs/, made anew'
 	@echo 'make tried         wrong code for every public function, which the check must refuse: docs/TRIED.md, made anew (an hour)'
 
@@ -42,7 +44,15 @@ record: library
 
 # times beside the Rust, in one run
 bench: library
-	$(RUST) bench
+	@$(RUST) bench
+
+# times beside libcmph, in one run
+bench-cmph: library
+	@$(RUST) bench_cmph
+
+# the tables of docs/BENCHMARKS.md, made anew
+benchmarks: library
+	@tools/benchmarks
 
 # both programs on the lists of examples/
 demo:

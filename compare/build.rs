@@ -1,16 +1,19 @@
-//! Finds the Rust source to compare with and the static library to compare.
+//! Finds the Rust source to compare with, the static library to compare, and libcmph where it is
+//! installed.
 
 use std::env;
 use std::fs;
 use std::path::{Path, PathBuf};
 
 const MODULE: &str = "crates/rbitcoin-store/src/bdz.rs";
+const HEADERS: &str = "/usr/include";
 
 fn main() {
     println!("cargo:rustc-check-cfg=cfg(source_at_hand)");
     println!("cargo:rerun-if-changed=build.rs");
     name_source(&place("BDZ_SRC", "../../shared/docs/src").join(MODULE));
     link_library(&place("BDZ_LIB", "../target/staticlib/libbdz_oracle.a"));
+    link_cmph();
 }
 
 /// What the environment names, or else the usual place, seen from this crate's folder.
@@ -56,4 +59,15 @@ fn link_library(library: &Path) {
         "cargo:rustc-link-lib=static:+verbatim={}",
         name.to_string_lossy()
     );
+}
+
+/// Only the program that measures libcmph links it, so that nothing else needs it. The folder is
+/// watched and not the header: cargo builds all anew each time while a watched file is missing.
+fn link_cmph() {
+    println!("cargo:rustc-check-cfg=cfg(cmph_at_hand)");
+    println!("cargo:rerun-if-changed={HEADERS}");
+    if Path::new(HEADERS).join("cmph.h").exists() {
+        println!("cargo:rustc-cfg=cmph_at_hand");
+        println!("cargo:rustc-link-arg-bin=bench_cmph=-lcmph");
+    }
 }

@@ -4,7 +4,7 @@ use std::process::ExitCode;
 
 #[cfg(source_at_hand)]
 fn main() -> ExitCode {
-    compare::benchmark::print_table();
+    compare::benchmark::print_page();
     ExitCode::SUCCESS
 }
 
