@@ -51,8 +51,8 @@ const ORDERED: u64 = 5;
 const SPARSE: usize = 20;
 const RECORDS: usize = 200;
 const ALTERED: usize = 20;
-/// A compact index of more vertices is lent too little occupancy.
-const LENT_VERTICES: u32 = 300_000;
+/// What an index of more vertices needs is too much to be lent.
+const LENT_VERTICES: u32 = 1 << 19;
 
 pub fn run(tally: &mut Tally, rng: &mut Rng, calls: Calls, least: u64) -> Result<(), Difference> {
     rounds(tally, least, |tally| {
@@ -77,7 +77,7 @@ pub fn run(tally: &mut Tally, rng: &mut Rng, calls: Calls, least: u64) -> Result
     })
 }
 
-/// What is fed, and what is lent beside it: more than is needed, where that is not too much.
+/// What is fed, and what is lent beside it: `LONGER` more than is needed, where that is not too much.
 struct Subject {
     index: FeedIndex,
     keys: Vec<u64>,
@@ -87,7 +87,7 @@ struct Subject {
 
 impl Subject {
     fn new(rng: &mut Rng, index: FeedIndex, keys: Vec<u64>) -> Self {
-        let m = index.m.min(LENT_VERTICES);
+        let m = lent_vertices(index);
         let (bytes, counts) = rank::needs(m);
         let kind = rng.below(OCCUPANCIES);
         let bits = occupancy(rng, bytes + LONGER, kind);
@@ -151,7 +151,7 @@ impl Subject {
 
     /// With the needed part of what is lent, and a little more.
     fn case(&self, rng: &mut Rng, calls: Calls) -> Case<'_> {
-        let (bytes, counts) = rank::needs(self.index.m.min(LENT_VERTICES));
+        let (bytes, counts) = rank::needs(lent_vertices(self.index));
         let longer = rng.below_usize(LONGER + 1);
         self.case_with(calls, bytes + longer, counts + longer)
     }
@@ -164,6 +164,15 @@ impl Subject {
             occupancy: &self.occupancy.given()[..bytes],
             supers: &self.supers.given()[..counts],
         }
+    }
+}
+
+/// The number of vertices whose occupancy and super counts are lent to an index: its own, or a few of
+/// too many.
+fn lent_vertices(index: FeedIndex) -> u32 {
+    match index.m {
+        0..=LENT_VERTICES => index.m,
+        _ => 8,
     }
 }
 
@@ -215,6 +224,13 @@ impl Attack<'_> {
         let rooms = Rooms::enough(self.rng, subject.keys.len());
         let case = subject.case(self.rng, self.calls);
         self.start(case, rooms)
+    }
+
+    /// The same for an index that can be fed.
+    fn begin_sound<'a>(&mut self, subject: &'a Subject) -> Result<Trial<'a>, Difference> {
+        let trial = self.begin(subject)?;
+        assert_eq!(trial.status, DONE, "the input is another case");
+        Ok(trial)
     }
 
     fn page(&mut self, trial: &mut Trial, call: PageCall) -> Result<(), Difference> {
@@ -305,7 +321,7 @@ impl Attack<'_> {
         let drawn = |&page: &u32| (page, self.rng.bytes(feed.page_bytes(page)));
         let bytes: BTreeMap<u32, Vec<u8>> = listed.iter().map(drawn).collect();
         for order in orders(&listed) {
-            let mut trial = self.begin(&subject)?;
+            let mut trial = self.begin_sound(&subject)?;
             self.ask_all(&trial, count)?;
             for page in order {
                 self.feed(&mut trial, page, &bytes[&page])?;
@@ -335,7 +351,7 @@ impl Attack<'_> {
 
     fn shuffled(&mut self, subject: &Subject) -> Result<(), Difference> {
         let count = subject.keys.len();
-        let mut trial = self.begin(subject)?;
+        let mut trial = self.begin_sound(subject)?;
         let mut order = trial.listed();
         self.rng.shuffle(&mut order);
         for page in order {
@@ -466,7 +482,7 @@ impl Attack<'_> {
     fn altered(&mut self, compact: bool) -> Result<(), Difference> {
         let (width, pages) = (self.any_width(), 1 + self.rng.below(4));
         let subject = Subject::of_pages(self.rng, compact, width, pages, KEYS);
-        let mut trial = self.begin(&subject)?;
+        let mut trial = self.begin_sound(&subject)?;
         for _ in 0..6 {
             trial.alter(self.rng);
             self.any_page(&mut trial)?;

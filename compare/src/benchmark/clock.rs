@@ -3,6 +3,7 @@
 use super::machine;
 use super::markdown::grouped;
 use super::table::{Cell, Table};
+use crate::rng::Rng;
 use std::hint::black_box;
 use std::time::{Duration, Instant};
 
@@ -191,3 +192,19 @@ fn time(work: &mut impl FnMut()) -> Duration {
     work();
     start.elapsed()
 }
+
+/// Measures at every size and prints the table, with how it was made before it.
+pub fn print_page(beside: &'static str, measure: Measure, print_method: fn()) -> Bench {
+    let mut bench = Bench::new(beside);
+    let mut rng = Rng::new(1);
+    for size in SIZES {
+        bench.turn_to(size);
+        measure(&mut bench, &mut rng);
+    }
+    print_method();
+    bench.table.print_all();
+    bench
+}
+
+/// Measures everything at one size.
+pub type Measure = fn(&mut Bench, &mut Rng);

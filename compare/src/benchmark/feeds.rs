@@ -6,9 +6,9 @@ use crate::bdz::{self, BdzMphf, GPageScatter};
 use crate::ours::{self, FeedIndex, FeedRoom, Question, DONE};
 use crate::topics::builds::{key_bytes, table_of};
 use crate::topics::feed::subject::{rust_pages, rust_vertices};
-use crate::trial::Rooms;
 use crate::topics::lookup::lent;
 use crate::topics::pack::rust_body;
+use crate::trial::Rooms;
 use std::hint::black_box;
 
 const BUDGET: f64 = 1.5;

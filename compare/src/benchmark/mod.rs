@@ -16,19 +16,12 @@ mod writing;
 use crate::bdz::{self, BdzMphf};
 use crate::rng::Rng;
 use crate::topics::builds::Build;
-use clock::{Bench, SIZES};
+use clock::Bench;
 
 /// Measures everything and prints the table, with how it was made before it and what follows from
 /// it behind.
 pub fn print_page() {
-    let mut bench = Bench::new("Rust");
-    let mut rng = Rng::new(1);
-    for size in SIZES {
-        bench.turn_to(size);
-        measure(&mut bench, &mut rng);
-    }
-    print_method();
-    bench.table.print_all();
+    let bench = clock::print_page("Rust", measure, print_method);
     println!("What a call of ours reads and writes, and of how many keys each cache holds that:");
     println!();
     bench.table.print_caches();

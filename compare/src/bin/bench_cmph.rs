@@ -24,7 +24,7 @@ fn main() -> ExitCode {
 mod measured {
     use super::cmph::{Algorithm, Function, KEY};
     use compare::benchmark::builds::OurBuild;
-    use compare::benchmark::clock::{self, Bench, Row, Start, SIZES};
+    use compare::benchmark::clock::{self, Bench, Row, Start};
     use compare::benchmark::lookups::ByteLookups;
     use compare::benchmark::machine;
     use compare::rng::Rng;
@@ -32,14 +32,7 @@ mod measured {
     use std::hint::black_box;
 
     pub fn print_page() {
-        let mut bench = Bench::new("libcmph");
-        let mut rng = Rng::new(1);
-        for size in SIZES {
-            bench.turn_to(size);
-            measure(&mut bench, &mut rng);
-        }
-        print_method();
-        bench.table.print_all();
+        clock::print_page("libcmph", measure, print_method);
     }
 
     /// Both kinds on the same keys. The value of a key is its position, as CHM's answer is.
