@@ -3,9 +3,11 @@
 An edit is `function: the wrong answer`, the file, the lines taken out (-) and those put in (+); or `must-fail NAME` where it stands
 among the crate's must-fail edits. It is made in a copy of the checkout, where `rt dev` must fail at a fact that no longer holds, and
 not merely at a proof that names what the code no longer has. What was seen goes into docs/TRIED.md, a section a crate; crates'
-names as arguments try only these. Fails where a public function has no two edits, or an edit is not refused.
+names as arguments try only these. Fails where a public function has no two edits, or an edit is not refused. With --check nothing is
+tried: the page must have a row for every edit, and every public function two edits.
 """
 
+import os
 import pathlib
 import re
 import shutil
@@ -16,13 +18,14 @@ import tempfile
 HOUSE = pathlib.Path(__file__).resolve().parent.parent
 CRATES = ["bdz_base", "bdz_table", "bdz_image", "bdz_list", "bdz_oracle"]
 PAGE = HOUSE / "docs" / "TRIED.md"
+# how much of a long line is shown on each side of what changes
+CONTEXT = 50
 HEAD = """# Tried
 
-For every public function two wrong answers or more, each tried by an edit of the code and seen refused. Made by `make tried` (tools/tried.py, tools/tried/). The last column is the first fact that the check could not show of the edited code: the function or lemma, and the fact's name in its proof. `returns` is the promise itself, at one of the places where the function returns; `requires` what a function that it calls asks for; `loop-again` that a loop keeps what it keeps. Edits in bold are must-fail edits, which every gate tries again.
+For every public function two wrong answers or more, each tried by an edit of the code and seen refused. Made by `make tried` (tools/tried.py, tools/tried/). The last column is the first fact that the check could not show of the edited code: the function or lemma, and the fact's name in its proof. `returns` is the promise itself, at one of the places where the function returns; `exits` is that of a walk; `requires` what a function that it calls asks for; `loop-again` that a loop keeps what it keeps. Where a proof is a walk, which follows the code step by step, it is the promise that is edited, and not the code: what the code does is then the wrong answer. Edits in bold are must-fail edits, which every gate tries again.
 """
 FUNCTION = re.compile(r" *(?:pub(?:\(crate\))? )?(?:extern \"C\" )?fn (\w+)")
 PUBLIC = re.compile(r" *pub (?:extern \"C\" )?fn (\w+)", re.M)
-DECLARATION = re.compile(r"(?:pub )?([\w-]+) :")
 # a name of the proof that the edited code no longer has, or one that it has more
 UNFIT = re.compile(r"has no `|no field|expected a function|too many|too few")
 
@@ -50,11 +53,32 @@ class Edit:
             raise SystemExit(f"{self.function}: {self.old!r} stands {text.count(self.old)} times in {self.path}")
         return text.replace(self.old, self.new)
 
+    def row(self):
+        """Its row of the page, up to what was seen."""
+        return f"| {self.function} | {self.wrong} | {self.told()} |"
+
     def told(self):
         """The lines that change, each by what it becomes."""
         pairs = zip(self.old.split("\n"), self.new.split("\n"))
-        changes = [f"`{old.strip()}` becomes `{new.strip()}`" for old, new in pairs if old != new]
+        changes = ["`{}` becomes `{}`".format(*shortened(old.strip(), new.strip())) for old, new in pairs if old != new]
         return f"{self.path}: {'; '.join(changes)}".replace("|", "\\|")
+
+
+def check():
+    """Whether the page speaks of just the edits that there are."""
+    rows = [line.rsplit("|", 2)[0] + "|" for line in PAGE.read_text().split("\n") if line.startswith("| ")]
+    listed = [row for row in rows if not row.startswith("| function ")]
+    if listed != [edit.row() for crate in CRATES for edit in edits_of(crate)]:
+        raise SystemExit("docs/TRIED.md does not list the edits of tools/tried: make tried")
+
+
+def shortened(old, new):
+    """Two lines without what both have far from where they differ."""
+    front = len(os.path.commonprefix([old, new]))
+    back = len(os.path.commonprefix([old[front:][::-1], new[front:][::-1]]))
+    first, behind = max(0, front - CONTEXT), max(0, back - CONTEXT)
+    marks = "…" if first else "", "…" if behind else ""
+    return [marks[0] + line[first : len(line) - behind] + marks[1] for line in (old, new)]
 
 
 def edits_of(crate):
@@ -72,10 +96,12 @@ def dev(house, crate):
     return ran.returncode, ran.stdout + ran.stderr
 
 
-def last_named(path, line, head):
-    """The name that the last head at or above a line gives."""
-    names = [found.group(1) for found in map(head.match, pathlib.Path(path).read_text().split("\n")[: int(line)]) if found]
-    return names[-1] if names else "?"
+def function_at(path, line):
+    """The function whose head stands at a line, below an attribute there, or last above it."""
+    lines, at = pathlib.Path(path).read_text().split("\n"), int(line)
+    while lines[at - 1].lstrip().startswith("#["):
+        at += 1
+    return [found.group(1) for found in map(FUNCTION.match, lines[:at]) if found][-1]
 
 
 def first_refused(output):
@@ -83,12 +109,14 @@ def first_refused(output):
     by_itself = re.search(r"^note: (\S+/src/(\S+)\.rt):(\d+):\d+: .* \(`([\w-]+)`\)", output, re.M)
     if by_itself:
         path, module, line, fact = by_itself.groups()
-        return f"{module}/{last_named(path, line, FUNCTION)}, `{fact}`"
-    for path, module, line, said in re.findall(r"^(\S+/proofs/(\S+)\.antt):(\d+):\d+: error: ?(.*)", output, re.M):
+        return f"{module}/{function_at(path, line)}, `{fact}`"
+    # what a function's own proof says comes before what else speaks of its promise
+    errors = re.findall(r"^\S+/proofs/(\S+)\.antt:\d+:\d+: error: `([\w-]+)`: (.*)", output, re.M)
+    for module, fact, said in sorted(errors, key=lambda error: not error[0].endswith("/Proof")):
         if UNFIT.search(said):
             return None
         if "was not admitted" not in said:
-            return f"{module.removesuffix('/Proof')}, `{last_named(path, line, DECLARATION)}`"
+            return f"{module.removesuffix('/Proof')}, `{fact}`"
     return None
 
 
@@ -115,12 +143,14 @@ def section(house, crate):
         place = seen(house, edit)
         held = held and place is not None
         print(f"{crate} {edit.function}: {edit.wrong}: {place}", flush=True)
-        rows.append(f"| {edit.function} | {edit.wrong} | {edit.told()} | {place} |")
+        rows.append(f"{edit.row()} {place} |")
     head = "| function | wrong answer | edit | first refused at |\n|---|---|---|---|"
     return "\n".join([f"## {crate}\n", head, *rows, ""]), held
 
 
 def main():
+    if sys.argv[1:] == ["--check"]:
+        return check()
     crates = sys.argv[1:] or CRATES
     parts = dict(re.findall(r"^(## (?:\w+))\n(.*?)(?=^## |\Z)", PAGE.read_text() if PAGE.exists() else "", re.M | re.S))
     parts = {name.removeprefix("## "): f"{name}\n{rows.rstrip()}\n" for name, rows in parts.items()}
