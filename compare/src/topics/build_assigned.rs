@@ -187,38 +187,75 @@ fn bad_values(tally: &mut Tally, rng: &mut Rng, n: usize) -> Result<(), Differen
         let room = Room::enough(rng);
         check_status(tally, rng, what, build, room, meant)
     };
-    let what = "value too large";
+    for values in large_values(&good, modulus) {
+        check("value too large", &values, ASSIGNED_VALUE)?;
+    }
+    for values in repeated_values(&good, modulus) {
+        check("value came before", &values, ASSIGNED_DUPLICATE)?;
+    }
+    for (values, meant) in values_with_both(&good, modulus) {
+        check("both faults of values", &values, meant)?;
+    }
+    Ok(())
+}
+
+/// Values of which one, or each, is not below the modulus.
+fn large_values(good: &[u32], modulus: u32) -> Vec<Vec<u32>> {
+    let n = good.len();
+    let mut lists = Vec::new();
     for large in [modulus, modulus + 1, u32::MAX] {
         for at in [0, n / 2, n - 1] {
-            let mut values = good.clone();
-            values[at] = large;
-            check(what, &values, ASSIGNED_VALUE)?;
+            lists.push(changed(good, &[(at, large)]));
         }
-        check(what, &vec![large; n], ASSIGNED_VALUE)?;
+        lists.push(vec![large; n]);
     }
+    lists
+}
+
+/// Values of which one came before, or all are the same.
+fn repeated_values(good: &[u32], modulus: u32) -> Vec<Vec<u32>> {
+    let n = good.len();
     if n < 2 {
-        return Ok(());
+        return Vec::new();
     }
-    let what = "value came before";
-    for (at, before) in [(1, 0), (n - 1, 0), (n - 1, n - 2), (n / 2, 0)] {
-        let mut values = good.clone();
-        values[at] = values[before];
-        check(what, &values, ASSIGNED_DUPLICATE)?;
-    }
-    check(what, &vec![modulus - 1; n], ASSIGNED_DUPLICATE)?;
+    let places = [(1, 0), (n - 1, 0), (n - 1, n - 2), (n / 2, 0)];
+    let mut lists: Vec<Vec<u32>> = places
+        .map(|(at, before)| changed(good, &[(at, good[before])]))
+        .into();
+    lists.push(vec![modulus - 1; n]);
+    lists
+}
+
+/// Values with both faults: the first of them is what is refused.
+fn values_with_both(good: &[u32], modulus: u32) -> Vec<(Vec<u32>, u32)> {
+    let n = good.len();
     if n < 3 {
-        return Ok(());
+        return Vec::new();
     }
-    let what = "both faults of values";
-    let mut values = good.clone();
-    (values[1], values[n - 1]) = (values[0], modulus);
-    check(what, &values, ASSIGNED_DUPLICATE)?;
-    let mut values = good.clone();
-    (values[1], values[n - 1]) = (modulus, values[0]);
-    check(what, &values, ASSIGNED_VALUE)?;
-    let mut values = good.clone();
-    (values[0], values[n - 1]) = (modulus, modulus);
-    check(what, &values, ASSIGNED_VALUE)
+    let last = n - 1;
+    vec![
+        (
+            changed(good, &[(1, good[0]), (last, modulus)]),
+            ASSIGNED_DUPLICATE,
+        ),
+        (
+            changed(good, &[(1, modulus), (last, good[0])]),
+            ASSIGNED_VALUE,
+        ),
+        (
+            changed(good, &[(0, modulus), (last, modulus)]),
+            ASSIGNED_VALUE,
+        ),
+    ]
+}
+
+/// The values with others at these places.
+fn changed(good: &[u32], changes: &[(usize, u32)]) -> Vec<u32> {
+    let mut values = good.to_vec();
+    for &(at, value) in changes {
+        values[at] = value;
+    }
+    values
 }
 
 /// The buffers are tested before the values, and before a seed is tried.

@@ -343,15 +343,20 @@ fn check(
         .or_else(|| answers.fault("answers", left))
         .or_else(|| words_fault(rng, keys, index, room, (agreed, left)));
     tally.same_all(what, inputs, (status, fault), (agreed, None), || {
-        format!(
-            "{}, {}, {room:?}; the answers are the status and the first element of a buffer that \
-             is not left as it must be",
-            record.describe(),
-            listed("keys", keys)
-        )
+        asked(record, keys, room)
     })?;
     let found = answers.given().iter().copied().take(keys.len()).collect();
     Ok((status, found))
+}
+
+/// What was asked, and what is told of it.
+fn asked(record: &Record, keys: &[u64], room: Room) -> String {
+    format!(
+        "{}, {}, {room:?}; the answers are the status and the first element of a buffer that is \
+         not left as it must be",
+        record.describe(),
+        listed("keys", keys)
+    )
 }
 
 /// Looks the keys up where nothing is refused, in exact buffers or longer ones.

@@ -299,19 +299,24 @@ fn wrong_pages(
             refuse("pages given before", given, bytes, PAGE_GIVEN)?;
         }
     }
-    let least = pages.iter().min().copied().unwrap_or(0);
-    let past = pages.iter().max().map_or(0, |last| last + 1);
-    let mut strange = vec![past, past + 1, u32::MAX, u32::MAX - 1, 1 << 31];
-    strange.push(least.saturating_sub(1));
-    strange.extend(pages.iter().take(3).map(|page| page + 1));
-    strange.retain(|page| !pages.contains(page));
-    for page in strange {
+    for page in strange_pages(pages) {
         for length in [0, 1, bdz::G_PAGE_BYTES] {
             let bytes = &[0x5a; bdz::G_PAGE_BYTES][..length];
             refuse("pages not listed", page, bytes, PAGE_NOT_LISTED)?;
         }
     }
     Ok(())
+}
+
+/// Pages that are not among these: beside them, past them, and the last that there are numbers for.
+fn strange_pages(pages: &[u32]) -> Vec<u32> {
+    let least = pages.iter().min().copied().unwrap_or(0);
+    let past = pages.iter().max().map_or(0, |last| last + 1);
+    let mut strange = vec![past, past + 1, u32::MAX, u32::MAX - 1, 1 << 31];
+    strange.push(least.saturating_sub(1));
+    strange.extend(pages.iter().take(3).map(|page| page + 1));
+    strange.retain(|page| !pages.contains(page));
+    strange
 }
 
 /// A table of a few pages that no build makes, about the end of a page; words of most widths cross.
@@ -390,27 +395,34 @@ fn built_feed(
         0 | 1 => few(tally, rng, calls, &subject, &keys)?,
         _ => shuffled_feed(tally, rng, calls, &subject, &keys)?,
     };
-    let rust = folder.index(compact, &image);
-    let mut session = UringSession::new(rng.next_u64());
-    let rust = rust.index_batch(&keys, &mut IoCtx::with(&mut session));
-    let rust = rust.expect("the Rust does not refuse");
+    let rust = file_answers(rng, folder, compact, &image, &keys);
     let what = "answers beside the Rust's file";
     tally.same_all(what, keys.len(), &found, &rust, || {
         subject.record.describe()
     })?;
     found.truncate(n);
-    let meant = match compact {
+    let (what, meant) = match compact {
         true => {
             found.sort_unstable();
-            (0..n as u32).collect()
+            ("numbers found once", (0..n as u32).collect())
         }
-        false => values,
-    };
-    let what = match compact {
-        true => "numbers found once",
-        false => "values found",
+        false => ("values found", values),
     };
     tally.same_all(what, n, found, meant, || subject.record.describe())
+}
+
+/// The Rust's answers from its file, whose pages it reads in a drawn order.
+fn file_answers(
+    rng: &mut Rng,
+    folder: &Folder,
+    compact: bool,
+    image: &[u8],
+    keys: &[u64],
+) -> Vec<u32> {
+    let rust = folder.index(compact, image);
+    let mut session = UringSession::new(rng.next_u64());
+    let answers = rust.index_batch(keys, &mut IoCtx::with(&mut session));
+    answers.expect("the Rust does not refuse")
 }
 
 /// A feed of an index of no keys or one, for which the Rust has no scatter: its lookup of a key reads

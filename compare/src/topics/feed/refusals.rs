@@ -98,8 +98,24 @@ fn short_calls(
         trial.page(tally, rng, "pages", call)?;
     }
     let bytes = subject.page(last);
-    for length in shorter(rng, 3 * keys.len()) {
-        let enough = trial.page_call(last, &bytes);
+    short_pages(tally, rng, &mut trial, last, &bytes, keys.len())?;
+    short_asks(tally, rng, &trial, subject, keys.len())?;
+    let call = trial.page_call(last, &bytes);
+    trial.page(tally, rng, "pages", call)?;
+    short_asks(tally, rng, &trial, subject, keys.len())
+}
+
+/// The order, the slots or both of a page too short.
+fn short_pages(
+    tally: &mut Tally,
+    rng: &mut Rng,
+    trial: &mut Trial,
+    page: u32,
+    bytes: &[u8],
+    count: usize,
+) -> Result<(), Difference> {
+    for length in shorter(rng, 3 * count) {
+        let enough = trial.page_call(page, bytes);
         for call in [
             PageCall {
                 order: length,
@@ -122,12 +138,10 @@ fn short_calls(
             assert_eq!(status, NO_ROOM, "{what}: the input is another case");
         }
     }
-    short_asks(tally, rng, &trial, subject, keys.len())?;
-    let call = trial.page_call(last, &bytes);
-    trial.page(tally, rng, "pages", call)?;
-    short_asks(tally, rng, &trial, subject, keys.len())
+    Ok(())
 }
 
+/// Each buffer of an asking too short, and positions that are not there.
 fn short_asks(
     tally: &mut Tally,
     rng: &mut Rng,
@@ -142,51 +156,65 @@ fn short_asks(
     };
     for position in [0, count as u64 - 1] {
         let enough = trial.ask_call(position);
-        let with = |change: &dyn Fn(&mut AskLengths)| {
-            let mut call = enough;
-            change(&mut call.lengths);
-            call
-        };
-        refuse(
-            "no room for the answer",
-            AskCall { told: 0, ..enough },
-            NO_ROOM,
-        )?;
-        let what = "slots of an asking too short";
-        for length in [0, 3 * count - 1, 3 * count / 2] {
-            refuse(what, with(&|lengths| lengths.slots = length), NO_ROOM)?;
-        }
+        short_slots(&mut refuse, enough, count)?;
         if subject.record.compact {
-            let (bytes, supers) = rank::needs(subject.record.m);
-            let what = "super counts too short";
-            for length in [0, supers - 1] {
-                refuse(what, with(&|lengths| lengths.supers = length), NO_ROOM)?;
-            }
-            let what = "occupancy too short";
-            for length in [0, bytes - 1] {
-                let short = with(&|lengths| lengths.occupancy = length);
-                refuse(what, short, OCC_TRUNCATED)?;
-                let shorter = with(&|lengths| {
-                    (lengths.occupancy, lengths.supers, lengths.slots) = (length, 0, 0);
-                });
-                refuse(what, shorter, OCC_TRUNCATED)?;
-            }
+            short_ranks(&mut refuse, enough, subject.record.m)?;
         }
-        let what = "positions that are not there";
-        for far in [count as u64, count as u64 + 1, u64::MAX, 1 << 32, 1 << 62] {
-            let far = AskCall {
-                position: far,
-                ..enough
-            };
-            refuse(what, far, NO_SUCH_KEY)?;
-            let mut bare = far;
-            (bare.lengths.slots, bare.lengths.occupancy) = (0, 0);
-            refuse(what, bare, NO_SUCH_KEY)?;
-        }
-        let lent = position as usize;
-        refuse(what, with(&|lengths| lengths.lent = lent), NO_SUCH_KEY)?;
+        far_positions(&mut refuse, enough, count as u64)?;
     }
     Ok(())
+}
+
+/// Asks with a call that is named, and expects this refusal.
+type Refuse<'a> = dyn FnMut(&'static str, AskCall, u32) -> Result<(), Difference> + 'a;
+
+/// The call with other lengths.
+fn with(mut call: AskCall, change: impl Fn(&mut AskLengths)) -> AskCall {
+    change(&mut call.lengths);
+    call
+}
+
+fn short_slots(refuse: &mut Refuse, enough: AskCall, count: usize) -> Result<(), Difference> {
+    let told = AskCall { told: 0, ..enough };
+    refuse("no room for the answer", told, NO_ROOM)?;
+    for length in [0, 3 * count - 1, 3 * count / 2] {
+        let short = with(enough, |lengths| lengths.slots = length);
+        refuse("slots of an asking too short", short, NO_ROOM)?;
+    }
+    Ok(())
+}
+
+fn short_ranks(refuse: &mut Refuse, enough: AskCall, m: u32) -> Result<(), Difference> {
+    let (bytes, supers) = rank::needs(m);
+    for length in [0, supers - 1] {
+        let short = with(enough, |lengths| lengths.supers = length);
+        refuse("super counts too short", short, NO_ROOM)?;
+    }
+    let what = "occupancy too short";
+    for length in [0, bytes - 1] {
+        let short = with(enough, |lengths| lengths.occupancy = length);
+        refuse(what, short, OCC_TRUNCATED)?;
+        let shorter = with(enough, |lengths| {
+            (lengths.occupancy, lengths.supers, lengths.slots) = (length, 0, 0);
+        });
+        refuse(what, shorter, OCC_TRUNCATED)?;
+    }
+    Ok(())
+}
+
+fn far_positions(refuse: &mut Refuse, enough: AskCall, count: u64) -> Result<(), Difference> {
+    let what = "positions that are not there";
+    for position in [count, count + 1, u64::MAX, 1 << 32, 1 << 62] {
+        let far = AskCall { position, ..enough };
+        refuse(what, far, NO_SUCH_KEY)?;
+        let bare = with(far, |lengths| {
+            (lengths.slots, lengths.occupancy) = (0, 0);
+        });
+        refuse(what, bare, NO_SUCH_KEY)?;
+    }
+    let lent = enough.position as usize;
+    let few = with(enough, |lengths| lengths.lent = lent);
+    refuse(what, few, NO_SUCH_KEY)
 }
 
 /// Numbers of keys that are named at feeding and asking and are not those of the start.
@@ -243,12 +271,7 @@ fn hostile_feed(
     let feeding = Feeding::with(rng, calls, index, &record, &keys);
     let case = feeding.case();
     let what = "hostile starts";
-    let mut rooms = Rooms::enough(rng, count);
-    for room in rooms.all_mut() {
-        if rng.below(6) == 0 {
-            *room = rng.below_usize(*room + 1);
-        }
-    }
+    let rooms = hostile_rooms(rng, count);
     Trial::start(tally, rng, what, case, rooms)?;
     let mut trial = Trial::start(tally, rng, what, case, Rooms::exact(count))?;
     tally.notice(match trial.status {
@@ -259,6 +282,28 @@ fn hostile_feed(
         other => panic!("{other} is no refusal of a start with room"),
     });
     hostile_asks(tally, rng, &trial, count)?;
+    hostile_pages(tally, rng, &mut trial, count)
+}
+
+/// Buffers of which some are too short.
+fn hostile_rooms(rng: &mut Rng, count: usize) -> Rooms {
+    let mut rooms = Rooms::enough(rng, count);
+    for room in rooms.all_mut() {
+        if rng.below(6) == 0 {
+            *room = rng.below_usize(*room + 1);
+        }
+    }
+    rooms
+}
+
+/// Pages for other numbers of keys, and then listed ones and others, of some length and of the right
+/// one.
+fn hostile_pages(
+    tally: &mut Tally,
+    rng: &mut Rng,
+    trial: &mut Trial,
+    count: usize,
+) -> Result<(), Difference> {
     let what = "hostile pages";
     for keys in other_counts(count) {
         let call = PageCall {
@@ -277,7 +322,7 @@ fn hostile_feed(
             let call = trial.page_call(page, bytes);
             trial.page(tally, rng, what, call)?;
         }
-        hostile_asks(tally, rng, &trial, count)?;
+        hostile_asks(tally, rng, trial, count)?;
     }
     Ok(())
 }
@@ -328,31 +373,44 @@ pub fn altered(
         if rng.below(3) > 0 {
             trial.alter(rng);
         }
-        let page = match rng.below(6) {
-            0 => rng.edge_u32(),
-            1 => rng.below(12) as u32,
-            _ => pages[rng.below_usize(pages.len())],
-        };
-        let length = match rng.below(4) {
-            0 => rng.below_usize(bdz::G_PAGE_BYTES + 2),
-            _ => trial.page_bytes(page),
-        };
-        let bytes = rng.bytes(length);
-        let mut call = trial.page_call(page, &bytes);
-        if rng.below(4) == 0 {
-            call.keys = 1 + rng.below(count as u64);
-        }
-        let early = page_status(subject.index(), call.keys, call.order, call.slots);
-        assert_eq!(early, DONE, "the input is another case");
-        if trial.page(tally, rng, "pages of altered feeds", call)? == DONE {
-            tally.notice("pages taken by altered feeds");
-        }
+        altered_page(tally, rng, &mut trial, subject.index(), &pages, count)?;
         for position in positions(rng, count) {
             let asked = trial.ask(tally, rng, "askings of altered feeds", position as u64)?;
             if asked.is_ok() {
                 tally.notice("answers of altered feeds");
             }
         }
+    }
+    Ok(())
+}
+
+/// A page of an altered feed: listed or not, of the right length or not, and perhaps for fewer keys.
+fn altered_page(
+    tally: &mut Tally,
+    rng: &mut Rng,
+    trial: &mut Trial,
+    index: FeedIndex,
+    pages: &[u32],
+    count: usize,
+) -> Result<(), Difference> {
+    let page = match rng.below(6) {
+        0 => rng.edge_u32(),
+        1 => rng.below(12) as u32,
+        _ => pages[rng.below_usize(pages.len())],
+    };
+    let length = match rng.below(4) {
+        0 => rng.below_usize(bdz::G_PAGE_BYTES + 2),
+        _ => trial.page_bytes(page),
+    };
+    let bytes = rng.bytes(length);
+    let mut call = trial.page_call(page, &bytes);
+    if rng.below(4) == 0 {
+        call.keys = 1 + rng.below(count as u64);
+    }
+    let early = page_status(index, call.keys, call.order, call.slots);
+    assert_eq!(early, DONE, "the input is another case");
+    if trial.page(tally, rng, "pages of altered feeds", call)? == DONE {
+        tally.notice("pages taken by altered feeds");
     }
     Ok(())
 }
@@ -379,28 +437,34 @@ pub fn largest_compact(tally: &mut Tally, rng: &mut Rng, calls: Calls) -> Result
             occupancy: &occupancy,
             supers: &supers,
         };
-        let what = "the largest compact index";
-        let short = Case {
-            occupancy: &occupancy[1..],
-            ..whole
-        };
-        let refused = Trial::begin(tally, rng, what, short)?;
-        assert_eq!(refused.status, OCC_TRUNCATED, "{what}");
-        let mut trial = Trial::begin(tally, rng, what, whole)?;
-        assert_eq!(trial.status, DONE, "{what}");
-        for page in trial.listed() {
-            let bytes = rng.bytes(trial.page_bytes(page));
-            let call = trial.page_call(page, &bytes);
-            trial.page(tally, rng, what, call)?;
-        }
-        for position in 0..keys.len() as u64 {
-            let mut short = trial.ask_call(position);
-            short.lengths.supers -= 1;
-            let asked = trial.ask_with(tally, rng, what, short)?;
-            assert_eq!(asked, Err(NO_ROOM), "{what}");
-            let asked = trial.ask(tally, rng, what, position)?;
-            assert!(asked.is_ok(), "{what}");
-        }
+        largest_feed(tally, rng, whole)?;
+    }
+    Ok(())
+}
+
+/// Refused with a byte less, fed with every page, and every key asked, with a super count less too.
+fn largest_feed(tally: &mut Tally, rng: &mut Rng, whole: Case) -> Result<(), Difference> {
+    let what = "the largest compact index";
+    let short = Case {
+        occupancy: &whole.occupancy[1..],
+        ..whole
+    };
+    let refused = Trial::begin(tally, rng, what, short)?;
+    assert_eq!(refused.status, OCC_TRUNCATED, "{what}");
+    let mut trial = Trial::begin(tally, rng, what, whole)?;
+    assert_eq!(trial.status, DONE, "{what}");
+    for page in trial.listed() {
+        let bytes = rng.bytes(trial.page_bytes(page));
+        let call = trial.page_call(page, &bytes);
+        trial.page(tally, rng, what, call)?;
+    }
+    for position in 0..whole.keys.len() as u64 {
+        let mut short = trial.ask_call(position);
+        short.lengths.supers -= 1;
+        let asked = trial.ask_with(tally, rng, what, short)?;
+        assert_eq!(asked, Err(NO_ROOM), "{what}");
+        let asked = trial.ask(tally, rng, what, position)?;
+        assert!(asked.is_ok(), "{what}");
     }
     Ok(())
 }
