@@ -221,6 +221,14 @@ def images():
     tried("another answer", ONE, other, lines("BDZ2", 1, 1, 3, 1, 0))
 
 
+def small_images():
+    # an index of no keys answers 0 to every key, and so does a compact one of one key: the first key that is asked holds it
+    some, ids = assigned([(1, 2), (2, 0), (3, 1)], 3), compact([1, 2, 3])
+    tried("assigned image of no keys", some, header(b"BDZ2", 1, 0, 9, 5, 3, 2), lines("BDZ2", 0, 0, 2, 3, 1))
+    tried("compact image of no keys", ids, header(b"BDZ3", 1, 0, 9, 5, 0, 2), lines("BDZ3", 0, 0, 2, 3, 1))
+    tried("compact image of one key", ids, header(b"BDZ3", 1, 1, 1, 1, 0, 2) + b"\0\1", lines("BDZ3", 1, 1, 2, 3, 1))
+
+
 def large_images():
     # a table of zeros answers 0, and an occupancy of zeros ranks to 0
     some = assigned([(1, 2), (2, 0), (3, 1)], 3)
@@ -258,6 +266,7 @@ accepted_lists()
 damaged_lists()
 refused_builds()
 images()
+small_images()
 large_images()
 failing_system()
 if failures:

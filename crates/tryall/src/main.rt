@@ -195,18 +195,20 @@ fn right(index: Index, values: &[u32], answers: &[u32]) -> u64 {
         Kind::Assigned => same_values(values, answers),
         Kind::Compact => {
             let mut seen = [0u8; 8193];
-            let n = fewer(index.n, 65537);
-            first_holders(n, answers, &mut seen).count
+            first_holders(above_answers(index.n), answers, &mut seen).count
         }
     }
 }
 
-// An answer is at most m, so past that n says nothing.
-fn fewer(a: u32, b: u32) -> u32 {
-    if a < b {
-        return a;
+// A number that every answer is below: an answer is at most m, so past that n says nothing, and in an index of no keys it is 0.
+fn above_answers(n: u32) -> u32 {
+    if n == 0 {
+        return 1;
     }
-    b
+    if n < 65537 {
+        return n;
+    }
+    65537
 }
 
 // The bytes of the occupancy, which stand last: only a compact image has them.
