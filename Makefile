@@ -8,7 +8,7 @@ RUST := cargo run --release --quiet --manifest-path compare/Cargo.toml --bin
 help:
 	@echo 'make test          everything that a merge needs: proofs, must-fail edits, programs, comparison with the Rust, attack'
 	@echo 'make demo          both programs on the lists of examples/, and on an image that is cut by one byte'
-	@echo 'make programs      both programs on good, damaged and hostile files'
+	@echo 'make programs      both programs built, and tried on good, damaged and hostile files'
 	@echo 'make compare       the comparison, then the attack; COMPARE_SEED sets the random inputs'
 	@echo 'make attack        hostile inputs to the exports, each call held to a plain model; ATTACK_CALLS sets how many'
 	@echo 'make compare-long  the attack with ten million calls, then ten minutes of the comparison with further seeds'
@@ -60,8 +60,8 @@ demo:
 
 # both programs on good, damaged and hostile files
 programs:
-	@rt check build_index tryall > /dev/null
-	@python3 tools/programs.py
+	@tools/prove build_index tryall
+	@python3 tools/programs
 
 # the drawings of docs/
 drawings:

@@ -20,10 +20,10 @@ TAKEN = re.compile(r"^\s*(?:ghost )?(?:pub )?use ([^\s{]+?)(?:\.\{(.*)\}| as (\S
 FILES = {"libc": ["close", "read", "write"], "os": ["rattle_open_to_read", "rattle_set_errno"]}
 AXIOMS = {
     "recorded": FILES,
-    "tryall": {"libc": ["close", "lseek", "read", "write"], "os": FILES["os"]},
+    "tryall": {"libc": ["close", "lseek", "read", "write"], "os": ["__xpg_strerror_r", "rattle_errno", *FILES["os"]]},
     "build_index": {
-        "libc": ["close", "fsync", "read", "rename", "unlink", "write"],
-        "os": ["__xpg_strerror_r", "rattle_errno", "rattle_open_to_overwrite", *FILES["os"]],
+        "libc": ["close", "fsync", "getentropy", "read", "rename", "unlink", "write"],
+        "os": ["__xpg_strerror_r", "rattle_errno", "rattle_open_new", *FILES["os"]],
     },
 }
 

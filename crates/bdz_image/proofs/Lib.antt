@@ -18,6 +18,7 @@ pub mod Made
 pub mod Numbers
 pub mod Once
 pub mod OneAnswer
+pub mod OpenedParts
 pub mod Orders
 pub mod PageNos
 pub mod Passes

@@ -9,6 +9,9 @@ use Rattle.bdz_image.proofs.feed.feed_start.Reads as feed-start
 use Rattle.bdz_image.proofs.open.open_compact.Reads as open-compact
 use Rattle.bdz_image.proofs.open.open_packed.Reads as open-packed
 use Rattle.bdz_image.proofs.page.g_page_need.Reads as g-page-need
+use Rattle.bdz_image.proofs.parts.body_off.Reads as body-off
+use Rattle.bdz_image.proofs.parts.end_off.Reads as end-off
+use Rattle.bdz_image.proofs.parts.occ_off.Reads as occ-off
 use Rattle.bdz_image.proofs.size.image_len.Reads as image-len
 use Rattle.bdz_image.proofs.size.trailer_off.Reads as trailer-off
 use Rattle.bdz_image.proofs.text.refusal_text.Reads as refusal-text
@@ -19,6 +22,15 @@ one-image-len κs a x y s t p q = p ∙ sym q
 
 pub one-trailer-off : (κs : _) (a : _) → OneResult (trailer-off.Post κs a)
 one-trailer-off κs a x y s t p q = p ∙ sym q
+
+pub one-body-off : (κs : _) (a : _) → OneResult (body-off.Post κs a)
+one-body-off κs a x y s t p q = p ∙ sym q
+
+pub one-occ-off : (κs : _) (a : _) → OneResult (occ-off.Post κs a)
+one-occ-off κs a x y s t p q = p ∙ sym q
+
+pub one-end-off : (κs : _) (a : _) → OneResult (end-off.Post κs a)
+one-end-off κs a x y s t p q = p ∙ sym q
 
 pub one-write-image : (κs : _) (a : _) → OneOutcome (λ s. s .1 .1 .1 .0 .now) (write-image.Post κs a)
 one-write-image κs a x y s t p q = (p .number-is ∙ sym (q .number-is), p .after-is ∙ sym (q .after-is))

@@ -8,6 +8,7 @@ pub mod Image
 pub mod Open
 pub mod Page
 pub mod Pages
+pub mod Parts
 pub mod Radix
 pub mod Sort
 pub mod Start

@@ -8,6 +8,7 @@ pub mod header;
 pub mod list;
 pub mod open;
 pub mod page;
+pub mod parts;
 pub mod radix;
 pub mod size;
 pub mod slot;

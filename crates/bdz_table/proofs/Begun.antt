@@ -38,7 +38,7 @@ pub refuse-none : (k : ℕ) (b : Bool) (x : ℕ) → refuse (suc k) b x ≡ 0 �
 refuse-none k true x e = absurd (omega (arith, e))
 refuse-none k false x e = (refl, e)
 
-accept-none : (b : Bool) (x : ℕ) → b ≡ false → accept b x ≡ 0 → x ≡ 0
+pub accept-none : (b : Bool) (x : ℕ) → b ≡ false → accept b x ≡ 0 → x ≡ 0
 accept-none b x h e = rw h at e
 
 or-none : (a b : Bool) → (a || b) ≡ false → (a ≡ false) × (b ≡ false)

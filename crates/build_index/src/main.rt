@@ -2,7 +2,9 @@
 ghost use mathlib.Core.Path.{_≡_};
 ghost use mathlib.Core.Bool.{true};
 use bdz_base::refusal::ACCEPTED;
+use bdz_base::refusal::NO_ROOM;
 use bdz_base::verts::Kind;
+use bdz_base::words::le64;
 use bdz_image::size::image_len;
 use bdz_image::text::refusal_text;
 use bdz_image::write::write_image;
@@ -32,15 +34,26 @@ fn refuse(no: u32) {
     io::write_all(STDOUT_FILENO, b"\n");
 }
 
-// The bytes of a file, as many as there is room for; none where it cannot be read.
+// The bytes of a file, as many as there is room for; none where it cannot be read, and then standard error says why.
 fn read_file(path: &[u8], out: &mut [u8]) -> usize {
     let fd = os::open_read(path);
     if fd < 0 {
+        os::fail(path);
         return 0;
     }
-    let n = io::read_full(fd, out);
+    let n = read_open(path, fd, out);
     libc::close(fd);
-    if out.len() < n {
+    n
+}
+
+// A read that failed looks like the file's end; at the end one read more gives nothing.
+fn read_open(path: &[u8], fd: i32, out: &mut [u8]) -> usize {
+    let n = io::read_full(fd, out);
+    if out.len() <= n {
+        return n;
+    }
+    if libc::read(fd, &mut out[n..]) != 0 {
+        os::fail(path);
         return 0;
     }
     n
@@ -81,39 +94,95 @@ fn holds(path: &[u8], bytes: &[u8], room: &mut [u8]) -> bool {
     same_bytes(&room[0..n], bytes)
 }
 
-// The new file stands beside the old one until it has been read back; only then does it take its name.
-fn keep(bytes: &[u8], room: &mut [u8]) {
-    let name = b"index.bdz";
-    let fresh = b"index.bdz.new";
-    let fd = os::open_overwrite(fresh);
+// All bytes of a name.
+fn spell(name: &mut [u8; 30], text: &[u8; 30]) {
+    let mut i: usize = 0;
+    while i < 30 {
+        name[i] = text[i];
+        i += 1;
+    }
+}
+
+// The digits in the middle of it.
+fn number(name: &mut [u8; 30], digits: &[u8; 16]) {
+    let mut i: usize = 0;
+    while i < 16 {
+        name[10 + i] = digits[i];
+        i += 1;
+    }
+}
+
+// A name of this run's own: 64 random bits in hexadecimal.
+fn fresh_name(name: &mut [u8; 30]) -> bool {
+    let mut random = [0u8; 8];
+    if libc::getentropy(&mut random) != 0 {
+        return false;
+    }
+    let mut digits = [0u8; 16];
+    io::hex(le64(&random, 0), 16, &mut digits);
+    spell(name, b"index.bdz.0000000000000000.new");
+    number(name, &digits);
+    true
+}
+
+// Whether a new file of that name, on the disk, holds just these bytes. One that does not is removed.
+fn made(name: &[u8; 30], bytes: &[u8], room: &mut [u8]) -> bool {
+    let fresh: &[u8] = name;
+    // a name that is taken, by a link too, is refused: nothing that stands there is touched
+    let fd = os::create(fresh);
     if fd < 0 {
-        os::fail(fresh);
-        return;
+        os::fail(b"index.bdz");
+        return false;
     }
     let written = put(fd, bytes);
     if !written {
-        os::fail(fresh);
+        os::fail(b"index.bdz");
         libc::close(fd);
         os::unlink(fresh);
-        return;
+        return false;
     }
     if libc::close(fd) != 0 {
-        os::fail(fresh);
+        os::fail(b"index.bdz");
         os::unlink(fresh);
-        return;
+        return false;
     }
     if !holds(fresh, bytes, room) {
-        io::write_all(
-            libc::STDERR_FILENO,
-            b"index.bdz.new: not what was written\n",
-        );
+        io::write_all(libc::STDERR_FILENO, b"index.bdz: not what was written\n");
+        os::unlink(fresh);
+        return false;
+    }
+    true
+}
+
+// The new file takes the index's name, and that too reaches the disk.
+fn rename_in(folder: i32, name: &[u8; 30]) {
+    let fresh: &[u8] = name;
+    if os::rename(fresh, b"index.bdz") != 0 {
+        os::fail(b"index.bdz");
         os::unlink(fresh);
         return;
     }
-    if os::rename(fresh, name) != 0 {
-        os::fail(name);
-        os::unlink(fresh);
+    if libc::fsync(folder) != 0 {
+        os::fail(b".");
     }
+}
+
+// The new file stands beside the old one until it has been read back; only then does it take its name.
+fn keep(bytes: &[u8], room: &mut [u8]) {
+    let mut name = [0u8; 30];
+    if !fresh_name(&mut name) {
+        os::fail(b"index.bdz");
+        return;
+    }
+    let folder = os::open_read(b".");
+    if folder < 0 {
+        os::fail(b".");
+        return;
+    }
+    if made(&name, bytes, room) {
+        rename_in(folder, &name);
+    }
+    libc::close(folder);
 }
 
 fn main() {
@@ -123,6 +192,7 @@ fn main() {
     let mut values = [0u32; 1000];
     let view: &[u8] = &list;
     if view.len() < n {
+        refuse(NO_ROOM);
         return;
     }
     let listed = read_list(&view[0..n], &mut keys, &mut values);
@@ -139,9 +209,11 @@ fn build(listed: Listed, keys: &[u64; 1000], values: &[u32; 1000]) {
     let every: &[u32] = values;
     let count = listed.count as usize;
     if all.len() < count {
+        refuse(NO_ROOM);
         return;
     }
     if every.len() < count {
+        refuse(NO_ROOM);
         return;
     }
     let kind = listed.kind;
@@ -209,6 +281,7 @@ fn write(built: Built, table: &[u32], occupancy: &[u8]) {
     let len = image_len(built.index) as usize;
     let view: &[u8] = &image;
     if view.len() < len {
+        refuse(NO_ROOM);
         return;
     }
     let mut room = [0u8; 8193];

@@ -3,7 +3,6 @@
 use bdz_base::refusal::ACCEPTED;
 use bdz_base::refusal::G_LENGTH;
 use bdz_base::refusal::NO_ROOM;
-use bdz_base::size::occ_packed_bytes;
 use bdz_base::verts::Kind;
 use bdz_image::feed::feed_ask;
 use bdz_image::feed::feed_page;
@@ -11,7 +10,9 @@ use bdz_image::feed::feed_start;
 use bdz_image::open::open_compact;
 use bdz_image::open::open_packed;
 use bdz_image::page::g_page_need;
-use bdz_image::size::image_len;
+use bdz_image::parts::body_off;
+use bdz_image::parts::end_off;
+use bdz_image::parts::occ_off;
 use bdz_image::text::refusal_text;
 use bdz_list::list::Listed;
 use bdz_list::list::read_list;
@@ -41,34 +42,51 @@ fn refuse(no: u32) {
     io::write_all(STDOUT_FILENO, b"\n");
 }
 
-// The bytes of a file, as many as there is room for; none where it cannot be read.
-fn read_file(path: &[u8], out: &mut [u8]) -> usize {
-    let fd = os::open_read(path);
-    if fd < 0 {
-        return 0;
-    }
-    let n = io::read_full(fd, out);
-    libc::close(fd);
-    if out.len() < n {
-        return 0;
-    }
-    n
+// What was read of a file, and how long the whole of it is.
+struct Held {
+    read: usize,
+    len: u64,
 }
 
-// How long a file is, whatever of it was read; 0 where there is none.
-fn file_len(path: &[u8]) -> u64 {
+// The bytes of a file, as many as there is room for, and its length, both through one descriptor. A file that cannot be read counts as
+// empty, and standard error says why.
+fn read_file(path: &[u8], out: &mut [u8]) -> Held {
     let fd = os::open_read(path);
     if fd < 0 {
-        return 0;
+        os::fail(path);
+        return Held { read: 0, len: 0 };
     }
-    let end = libc::lseek(fd, 0, libc::SEEK_END);
+    let held = read_open(path, fd, out);
     libc::close(fd);
-    bytes_to(end)
+    held
+}
+
+// A read that failed looks like the file's end; at the end one read more gives nothing.
+fn read_open(path: &[u8], fd: i32, out: &mut [u8]) -> Held {
+    let n = io::read_full(fd, out);
+    if out.len() <= n {
+        return Held {
+            read: n,
+            len: larger(n as u64, bytes_to(libc::lseek(fd, 0, libc::SEEK_END))),
+        };
+    }
+    if libc::read(fd, &mut out[n..]) != 0 {
+        os::fail(path);
+        return Held { read: 0, len: 0 };
+    }
+    Held {
+        read: n,
+        len: n as u64,
+    }
 }
 
 // A position as a count of bytes; 0 where there was no answer.
 fn bytes_to(end: i64) -> u64 {
     if end > 0 { end as u64 } else { 0 }
+}
+
+fn larger(a: u64, b: u64) -> u64 {
+    if a < b { b } else { a }
 }
 
 fn say(what: &[u8], number: u64) {
@@ -211,14 +229,6 @@ fn above_answers(n: u32) -> u32 {
     65537
 }
 
-// The bytes of the occupancy, which stand last: only a compact image has them.
-fn occ_len(kind: Kind, m: u32) -> u64 {
-    match kind {
-        Kind::Assigned => 0,
-        Kind::Compact => occ_packed_bytes(m),
-    }
-}
-
 // The super counts of a compact image's own occupancy; an assigned one has none.
 fn count_supers(kind: Kind, m: u32, occ: &[u8], supers: &mut [u32]) -> u32 {
     match kind {
@@ -227,28 +237,34 @@ fn count_supers(kind: Kind, m: u32, occ: &[u8], supers: &mut [u32]) -> u32 {
     }
 }
 
-// Every key on an opened image.
+// Every key on an opened image, whose parts bdz_image names. That they lie within the file is proved of every image that opens.
 fn try_index(index: Index, keys: &[u64], values: &[u32], file: &[u8]) {
     if 65536 < index.m {
         refuse(NO_ROOM);
         return;
     }
-    let kind = index.kind;
-    let occ = occ_len(kind, index.m);
-    let end = image_len(index);
-    if (file.len() as u64) < end {
+    let start = body_off(index) as usize;
+    let middle = occ_off(index) as usize;
+    let end = end_off(index) as usize;
+    if middle < start {
         refuse(G_LENGTH);
         return;
     }
-    if end < occ {
+    if end < middle {
+        refuse(G_LENGTH);
         return;
     }
-    let middle = (end - occ) as usize;
-    let last = end as usize;
-    if middle < 32 {
+    if file.len() < end {
+        refuse(G_LENGTH);
         return;
     }
-    try_parts(index, keys, values, &file[32..middle], &file[middle..last]);
+    try_parts(
+        index,
+        keys,
+        values,
+        &file[start..middle],
+        &file[middle..end],
+    );
 }
 
 fn try_parts(index: Index, keys: &[u64], values: &[u32], table: &[u8], occ: &[u8]) {
@@ -267,6 +283,7 @@ fn try_parts(index: Index, keys: &[u64], values: &[u32], table: &[u8], occ: &[u8
     }
     let all: &[u32] = &answers;
     if all.len() < keys.len() {
+        refuse(NO_ROOM);
         return;
     }
     let same = right(index, values, &all[0..keys.len()]);
@@ -286,13 +303,14 @@ fn try_list(listed: Listed, keys: &[u64], values: &[u32]) {
     let path = b"index.bdz";
     let mut file = [0u8; 270368];
     let kind = listed.kind;
-    let len = file_len(path);
-    let n = read_file(path, &mut file);
+    let held = read_file(path, &mut file);
+    let n = held.read;
     let view: &[u8] = &file;
     if view.len() < n {
+        refuse(NO_ROOM);
         return;
     }
-    let opened = open_kind(kind, &view[0..n], len);
+    let opened = open_kind(kind, &view[0..n], held.len);
     if opened.no != ACCEPTED {
         refuse(opened.no);
         return;
@@ -302,11 +320,12 @@ fn try_list(listed: Listed, keys: &[u64], values: &[u32]) {
 
 fn main() {
     let mut list = [0u8; 14007];
-    let n = read_file(b"keys.lst", &mut list);
+    let n = read_file(b"keys.lst", &mut list).read;
     let mut keys = [0u64; 1000];
     let mut values = [0u32; 1000];
     let view: &[u8] = &list;
     if view.len() < n {
+        refuse(NO_ROOM);
         return;
     }
     let listed = read_list(&view[0..n], &mut keys, &mut values);
@@ -317,10 +336,8 @@ fn main() {
     let all: &[u64] = &keys;
     let every: &[u32] = &values;
     let count = listed.count as usize;
-    if all.len() < count {
-        return;
-    }
-    if every.len() < count {
+    if all.len() < count || every.len() < count {
+        refuse(NO_ROOM);
         return;
     }
     try_list(listed, &all[0..count], &every[0..count]);

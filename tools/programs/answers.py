@@ -1,123 +1,23 @@
-#!/usr/bin/env python3
-"""Runs build_index and tryall on good, damaged and hostile files, each time in a folder of its own.
-
-What they must print, and the images made by hand, are worked out here from document 01. Both programs must have been built
-(rt check). Run as root, the programs run as nobody, so that a folder can be one that they may not write.
-"""
-import os
-import resource
-import shutil
-import signal
-import stat
-import subprocess
-import sys
-import tempfile
-
-TOP = os.path.dirname(os.path.dirname(os.path.abspath(__file__)))
-sys.path.insert(0, os.path.join(TOP, "examples"))
-from make_list import assigned, compact  # noqa: E402
-
-TEXTS = {
-    2: "assigned modulus", 3: "assigned value", 4: "assigned duplicate", 5: "graph did not peel", 6: "short pread",
-    7: "g length", 8: "bad magic", 9: "bad version", 10: "g_bits", 11: "zero modulus", 14: "no room", 19: "bad list",
-}
-NOBODY = 65534
-OLD = b"the index of last week"
-# document 01's list of key 7
-ONE = bytes.fromhex("4B4D060000004B56070000000000000005000000")
-failures = []
-runs = 0
+"""What both programs answer to good, damaged and hostile lists and images."""
+from images import (
+    ONE, assigned, assigned_image, compact, header, keys_of, lines, packed, pairs_of, raised, vertices, width,
+)
+from room import BUILT, OLD, REFUSED, SAME, SOME_OTHER, Room, hold, missing, refused
 
 
-def refused(number):
-    return f"refused {number} {TEXTS[number]}\n"
-
-
-def vertices(n):
-    return n if n < 2 else max(-(-123 * n // 100), n + 3)
-
-
-def raised(m):
-    return -(-m // 3) * 3
-
-
-def width(modulus):
-    return max(1, (modulus - 1).bit_length()) if modulus else 1
-
-
-def lines(magic, n, m, bits, keys, same):
-    return f"image {magic} n={n} m={m} bits={bits}\nkeys={keys} same={same} other={keys - same}\n"
-
-
-def header(magic, version, n, m, seed, modulus, bits):
-    fields = ((version, 4), (n, 4), (m, 4), (seed, 8), (modulus, 4), (bits, 4))
-    return magic + b"".join(value.to_bytes(size, "little") for value, size in fields)
-
-
-class Room:
-    """A folder that the programs run in, with the files that it holds at first."""
-
-    def __init__(self, files):
-        self.top = tempfile.mkdtemp()
-        self.folder = os.path.join(self.top, "files")
-        os.mkdir(self.folder)
-        os.chmod(self.top, 0o711)
-        for path in ("target/bin/build_index", "target/bin/tryall", "tools/run"):
-            copy = os.path.join(self.top, os.path.basename(path))
-            shutil.copy(os.path.join(TOP, path), copy)
-            os.chmod(copy, 0o755)
-        for name, data in files.items():
-            with open(os.path.join(self.folder, name), "wb") as out:
-                out.write(data)
-        if os.getuid() == 0:
-            for path in [self.folder] + [os.path.join(self.folder, name) for name in files]:
-                os.chown(path, NOBODY, NOBODY)
-
-    def __enter__(self):
-        return self
-
-    def __exit__(self, *_):
-        os.chmod(self.folder, stat.S_IRWXU)
-        shutil.rmtree(self.top)
-
-    def run(self, program, limit=None):
-        global runs
-        runs += 1
-        drop = ["setpriv", f"--reuid={NOBODY}", f"--regid={NOBODY}", "--clear-groups"] if os.getuid() == 0 else []
-
-        def confine():
-            if limit is not None:
-                signal.signal(signal.SIGXFSZ, signal.SIG_IGN)
-                resource.setrlimit(resource.RLIMIT_FSIZE, (limit, limit))
-
-        done = subprocess.run(
-            drop + [os.path.join(self.top, "run"), os.path.join(self.top, program)],
-            cwd=self.folder, stdout=subprocess.PIPE, stderr=subprocess.PIPE, preexec_fn=confine, restore_signals=False,
-            timeout=120, check=False,
-        )
-        return done.stdout.decode("latin-1"), done.stderr.decode("latin-1"), done.returncode
-
-    def holds(self, name):
-        path = os.path.join(self.folder, name)
-        if not os.path.exists(path):
-            return None
-        with open(path, "rb") as data:
-            return data.read()
-
-
-def hold(what, found, expected):
-    if found != expected:
-        failures.append(what)
-        print(f"{what}: expected {expected!r}, found {found!r}", file=sys.stderr)
+def status_of(expected):
+    if expected.startswith("refused"):
+        return REFUSED
+    return SAME if expected.endswith(" other=0\n") else SOME_OTHER
 
 
 def built(what, key_list, expected):
     """An accepted build over an old index, then every key tried; gives the image."""
     with Room({"keys.lst": key_list, "index.bdz": OLD}) as room:
-        hold(f"{what}, build_index", room.run("build_index"), ("", "", 0))
-        hold(f"{what}, nothing left beside it", room.holds("index.bdz.new"), None)
+        hold(f"{what}, build_index", room.run("build_index"), ("", "", BUILT))
+        hold(f"{what}, nothing left beside it", room.left(), [])
         image = room.holds("index.bdz")
-        hold(f"{what}, tryall", room.run("tryall"), (expected, "", 0))
+        hold(f"{what}, tryall", room.run("tryall"), (expected, "", SAME))
         return image
 
 
@@ -127,9 +27,10 @@ def not_built(what, key_list, number):
     if key_list is not None:
         files["keys.lst"] = key_list
     with Room(files) as room:
-        hold(f"{what}, build_index", room.run("build_index"), (refused(number), "", 0))
+        said = missing("keys.lst") if key_list is None else ""
+        hold(f"{what}, build_index", room.run("build_index"), (refused(number), said, REFUSED))
         hold(f"{what}, old index", room.holds("index.bdz"), OLD)
-        hold(f"{what}, nothing left beside it", room.holds("index.bdz.new"), None)
+        hold(f"{what}, nothing left beside it", room.left(), [])
 
 
 def tried(what, key_list, image, expected):
@@ -137,16 +38,9 @@ def tried(what, key_list, image, expected):
     if image is not None:
         files["index.bdz"] = image
     with Room(files) as room:
-        hold(f"{what}, tryall", room.run("tryall"), (expected, "", 0))
+        said = missing("index.bdz") if image is None else ""
+        hold(f"{what}, tryall", room.run("tryall"), (expected, said, status_of(expected)))
         hold(f"{what}, image", room.holds("index.bdz"), image)
-
-
-def keys_of(n):
-    return [(i * 0x9E3779B97F4A7C15 + 12345) % 2**64 for i in range(n)]
-
-
-def pairs_of(n, modulus):
-    return [(key, (i * 7 + 3) % modulus) for i, key in enumerate(keys_of(n))]
 
 
 def accepted_lists():
@@ -158,8 +52,9 @@ def accepted_lists():
     image = built("no keys", assigned([], 6), lines("BDZ2", 0, 0, 3, 0, 0))
     hold("no keys, the header alone", image, header(b"BDZ2", 1, 0, 0, 0, 6, 3))
     for n, modulus in ((2, 2), (3, 65536), (13, 13), (101, 65536), (1000, 1000), (1000, 65536)):
-        expected = lines("BDZ2", n, vertices(n), width(modulus), n, n)
-        built(f"{n} assigned keys, modulus {modulus}", assigned(pairs_of(n, modulus), modulus), expected)
+        pairs, expected = pairs_of(n, modulus), lines("BDZ2", n, vertices(n), width(modulus), n, n)
+        image = built(f"{n} assigned keys, modulus {modulus}", assigned(pairs, modulus), expected)
+        hold(f"{n} assigned keys, modulus {modulus}, image", (image, n), assigned_image(pairs, modulus, width(modulus)))
     for n in (2, 3, 14, 15, 101, 1000):
         built(f"{n} compact keys", compact(keys_of(n)), lines("BDZ3", n, raised(vertices(n)), 2, n, n))
 
@@ -186,7 +81,7 @@ def damaged_lists():
     for what in ("empty", "compact, cut at 11", "compact behind assigned", "1,001 compact records", "modulus 65,537"):
         tried(f"list {what}", bad[what], OLD, refused(19))
     with Room({"index.bdz": OLD}) as room:
-        hold("list missing, tryall", room.run("tryall"), (refused(19), "", 0))
+        hold("list missing, tryall", room.run("tryall"), (refused(19), missing("keys.lst"), REFUSED))
 
 
 def refused_builds():
@@ -216,9 +111,28 @@ def images():
         tried(f"compact image with {more} bytes behind it", three, second + b"\xff" * more, good_three)
     tried("version 2", two, first[:4] + b"\2" + first[5:], refused(9))
     tried("width 0", two, first[:28] + b"\0" + first[29:], refused(10))
+    tried("width 33", two, first[:28] + b"\x21" + first[29:], refused(10))
     tried("modulus 0", two, first[:24] + b"\0" + first[25:], refused(11))
     other = header(b"BDZ2", 1, 1, 1, 1, 6, 3) + b"\4"
     tried("another answer", ONE, other, lines("BDZ2", 1, 1, 3, 1, 0))
+
+
+def widths():
+    """An opened image has the width of its header, which need not be that of its modulus."""
+    for bits in range(1, 33):
+        for n, modulus in ((1, 6), (2, 6), (40, 50), (600, 60000)):
+            pairs = pairs_of(n, modulus)
+            image, same = assigned_image(pairs, modulus, bits)
+            expected = lines("BDZ2", n, vertices(n), bits, n, same)
+            key_list = assigned(pairs, modulus)
+            tried(f"{n} keys, modulus {modulus}, width {bits}", key_list, image, expected)
+            if n < 600:
+                tried(f"{n} keys, width {bits}, bytes behind", key_list, image + b"\xff" * 9, expected)
+                tried(f"{n} keys, width {bits}, cut", key_list, image[:-1], refused(7))
+        tried(f"no keys, width {bits}", assigned([], 6), header(b"BDZ2", 1, 0, 9, 5, 6, bits), lines("BDZ2", 0, 0, bits, 0, 0))
+        table = [2**32 - 1 - v for v in range(65536)]
+        image = header(b"BDZ2", 1, 50000, 65536, 1, 1, bits) + packed(table, bits)
+        tried(f"m 65,536, width {bits}", assigned([(5, 0)], 1), image, lines("BDZ2", 50000, 65536, bits, 1, 1))
 
 
 def small_images():
@@ -244,31 +158,6 @@ def large_images():
     tried("compact m 65,538", ids, header(b"BDZ3", 1, 50000, 65538, 1, 0, 2) + bytes(16385 + 8193), refused(14))
 
 
-def failing_system():
-    key_list = assigned(pairs_of(100, 100), 100)
-    with Room({"keys.lst": key_list, "index.bdz": OLD}) as room:
-        os.chown(room.folder, os.getuid(), os.getgid())
-        os.chmod(room.folder, 0o555)
-        out, said, _ = room.run("build_index")
-        hold("unwritable folder, printed", out, "")
-        hold("unwritable folder, said", bool(said), True)
-        hold("unwritable folder, old index", room.holds("index.bdz"), OLD)
-    for limit in (0, 1, 31, 32, 100):
-        with Room({"keys.lst": key_list, "index.bdz": OLD}) as room:
-            out, said, _ = room.run("build_index", limit)
-            hold(f"files of at most {limit} bytes, printed", out, "")
-            hold(f"files of at most {limit} bytes, said", bool(said), True)
-            hold(f"files of at most {limit} bytes, old index", room.holds("index.bdz"), OLD)
-            hold(f"files of at most {limit} bytes, nothing left", room.holds("index.bdz.new"), None)
-
-
-accepted_lists()
-damaged_lists()
-refused_builds()
-images()
-small_images()
-large_images()
-failing_system()
-if failures:
-    sys.exit(f"programs: {len(failures)} of what was expected did not come, in {runs} runs")
-print(f"programs: {runs} runs, all as document 01 says")
+def every_answer():
+    for topic in (accepted_lists, damaged_lists, refused_builds, images, widths, small_images, large_images):
+        topic()
