@@ -3,7 +3,7 @@ SHELL := /bin/bash
 .SHELLFLAGS := -euo pipefail -c
 RUST := cargo run --release --quiet --manifest-path compare/Cargo.toml --bin
 
-.PHONY: help test programs compare compare-long attack record bench bench-cmph benchmarks demo drawings tried library
+.PHONY: help test programs compare compare-long compare-huge attack record bench bench-cmph benchmarks demo drawings tried library
 
 help:
 	@echo 'make test          everything that a merge needs: proofs, must-fail edits, programs, comparison with the Rust, attack'
@@ -12,6 +12,7 @@ help:
 	@echo 'make compare       the comparison, then the attack; COMPARE_SEED sets the random inputs'
 	@echo 'make attack        hostile inputs to the exports, each call held to a plain model; ATTACK_CALLS sets how many'
 	@echo 'make compare-long  the attack with ten million calls, then ten minutes of the comparison with further seeds'
+	@echo 'make compare-huge  builds of 2^27 keys beside the Rust, where 13 GB of memory are available; some ten minutes'
 	@echo 'make record        the recorded answers of the Rust, made anew'
 	@echo 'make bench         times beside the Rust'
 	@echo 'make bench-cmph    times beside libcmph, where it is installed'
@@ -37,6 +38,10 @@ attack: library
 compare-long: library
 	ATTACK_CALLS=10000000 $(RUST) attack
 	COMPARE_MINUTES=10 $(RUST) compare
+
+# builds of 2^27 keys of both kinds, compared and timed
+compare-huge: library
+	@tools/huge
 
 # the Rust's answers that `recorded` replays, made anew
 record: library

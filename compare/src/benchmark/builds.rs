@@ -1,6 +1,7 @@
 //! Builds of both kinds.
 
 use super::clock::{Bench, Row, Start};
+use crate::bdz::BdzMphf;
 use crate::expressions;
 use crate::lent::{Loan, Sizes};
 use crate::ours::{self, Index, DONE};
@@ -68,6 +69,25 @@ impl<'a> OurBuild<'a> {
         }
     }
 
+    /// That the Rust built the same.
+    pub fn assert_same(&self, what: &str, built: BdzMphf) {
+        assert!(
+            self.supers == lent(&built).supers,
+            "{what}: super counts differ"
+        );
+        let expected = Outcome::of_rust(Ok(built));
+        assert_eq!(
+            self.loan.answer(),
+            expected.answer(),
+            "{what}: answers differ"
+        );
+        assert_eq!(
+            self.loan.fault(&self.needs, expected.after()),
+            None,
+            "{what}"
+        );
+    }
+
     /// All that a run reads and writes.
     pub fn bytes(&self) -> usize {
         let needs = &self.needs;
@@ -116,22 +136,6 @@ fn build(bench: &mut Bench, rng: &mut Rng, what: &str, asked: Build) {
         },
     );
     bench.table.note_room(what, ours.bytes(), bench.keys());
-    let built = built
-        .expect("the Rust was measured")
-        .expect("random keys peel");
-    assert!(
-        ours.supers == lent(&built).supers,
-        "{what}: super counts differ"
-    );
-    let expected = Outcome::of_rust(Ok(built));
-    assert_eq!(
-        ours.loan.answer(),
-        expected.answer(),
-        "{what}: answers differ"
-    );
-    assert_eq!(
-        ours.loan.fault(&ours.needs, expected.after()),
-        None,
-        "{what}"
-    );
+    let built = built.expect("the Rust was measured");
+    ours.assert_same(what, built.expect("random keys peel"));
 }

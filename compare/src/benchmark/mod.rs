@@ -6,6 +6,7 @@
 pub mod builds;
 pub mod clock;
 mod feeds;
+pub mod huge;
 pub mod lookups;
 pub mod machine;
 mod markdown;

@@ -5,5 +5,6 @@ pub mod Numbers
 pub mod OneAnswer
 mod Packing
 pub mod SizeLaws
+pub mod TwoKeys
 pub mod VertexLaws
 pub mod WidthLaws

@@ -322,12 +322,15 @@ pub record Bounded (index : Index) (answer : ℕ) : Type 0 where
   pub assigned : index .kind ≡ Assigned → answer < index .modulus
   pub compact : index .kind ≡ Compact → answer ≤ index .n - 1
 
--- whatever index, table, occupancy and super counts are lent
-pub bounded : (index : Index) (asked table occ supers out : List ℕ) → lookupNo index (length asked) (length table) (length occ) (length supers) (length out) ≡ 0 → 1 ≤ length asked → 2 ≤ index .n
-    → (key : ℕ) → Bounded index (answerOf index table occ supers key)
+-- from the promise of the lookup, whatever index, table, occupancy and super counts are lent
+pub bounded : {index : Index} {asked table occ supers out : List ℕ} {number : ℕ} {out′ : List ℕ}
+    → LookedUp index asked table occ supers out number out′ → number ≡ 0 → 2 ≤ index .n
+    → (j : ℕ) → j < length asked → Bounded index (getD out′ j 0)
 unfolding assignedAnswer compactAnswer compactFrom
-bounded index asked table occ supers out e h l key =
-    let some = fits index (length asked) (length table) (length occ) (length supers) (length out) (omega arith) l e .modulus in
-    let by : (kind : Kind) → index .kind ≡ kind → answerOf index table occ supers key ≡ manyAnswer kind index table occ supers key =
-    λ kind k. many-answer index table occ supers key l ∙ ap (λ (x : Kind). manyAnswer x index table occ supers key) k in
+bounded {index} {asked} {table} {occ} {supers} {out} {number} {out′} u z l j h =
+    let ok = sym (u .number-is) ∙ z in
+    let key = getD asked j 0 in
+    let some = fits index (length asked) (length table) (length occ) (length supers) (length out) (omega arith) l ok .modulus in
+    let by : (kind : Kind) → index .kind ≡ kind → getD out′ j 0 ≡ manyAnswer kind index table occ supers key =
+    λ kind k. answer-at index asked table occ supers out number out′ u ok j h ∙ many-answer index table occ supers key l ∙ ap (λ (x : Kind). manyAnswer x index table occ supers key) k in
     record { assigned = λ k. rw (by Assigned k) (mod-lt _ some); compact = λ k. rw (by Compact k) (min-le-right _ _) }

@@ -33,6 +33,7 @@ pub mod Readying
 pub mod Runs
 pub mod Tries
 pub mod Turning
+pub mod TwoBuilt
 pub mod Views
 pub mod Walking
 pub mod Words
