@@ -78,7 +78,10 @@ fn no_vertices() {
 #[test]
 fn vertex_counts_above_32_bits() {
     let n = 3_491_843_330;
-    assert_eq!(u64::from(bdz::compact_vertex_count(n - 1)), ours::compact_vertex_count(n - 1));
+    assert_eq!(
+        u64::from(bdz::compact_vertex_count(n - 1)),
+        ours::compact_vertex_count(n - 1)
+    );
     assert_eq!(bdz::compact_vertex_count(n), 2);
     assert_eq!(ours::compact_vertex_count(n), 4_294_967_298);
     assert_eq!(ours::vertex_count(n - 1), u64::from(u32::MAX));
@@ -112,7 +115,10 @@ fn ranks() {
 fn super_counts() {
     assert_eq!(*bdz::supers_from_occ_bytes(&[], 1), [0, 0]);
     let mut supers = [7, 7];
-    assert_eq!(ours::supers_from_occ_bytes(1, &[], &mut supers), OCC_TRUNCATED);
+    assert_eq!(
+        ours::supers_from_occ_bytes(1, &[], &mut supers),
+        OCC_TRUNCATED
+    );
     assert_eq!(supers, [7, 7]);
     assert_eq!(*bdz::supers_from_occ_bytes(&[], 0), [0]);
     assert_eq!(ours::supers_from_occ_bytes(0, &[], &mut []), NO_ROOM);
@@ -136,7 +142,10 @@ fn lookups() {
     assert_eq!(answer(lent(0, 2, 1, 1, &[], &[])), (NO_ROOM, 7));
     assert_eq!(ask(index(2, 1, 1, &[0], Some(rank(1, &[], &[0, 0])))), 0);
     assert_eq!(answer(lent(1, 2, 1, 1, &[0], &[0, 0])), (OCC_TRUNCATED, 7));
-    assert_eq!(ours::index_words(&[0], lent(0, 0, 0, 0, &[], &[]), &mut []), NO_ROOM);
+    assert_eq!(
+        ours::index_words(&[0], lent(0, 0, 0, 0, &[], &[]), &mut []),
+        NO_ROOM
+    );
 }
 
 /// What a lookup of fewer than two keys never asks the Rust, and a caller of its own can: here the
@@ -148,7 +157,9 @@ fn finishing_fewer_than_two_keys() {
         assert_eq!(answer(lent(0, n, 1, 2, &[0], &[])), (DONE, 0));
     }
     for n in [0, 2] {
-        assert!(panics(|| index(n, 1, 0, &[0], None).finish_index(0, 0, 0, [0; 3])));
+        assert!(panics(
+            || index(n, 1, 0, &[0], None).finish_index(0, 0, 0, [0; 3])
+        ));
     }
     assert_eq!(answer(lent(0, 2, 1, 0, &[0], &[])), (ZERO_MODULUS, 7));
 }

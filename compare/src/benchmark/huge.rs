@@ -30,15 +30,20 @@ pub fn print_page() -> ExitCode {
         }
         None => eprintln!("this machine does not tell how much memory is available: going on"),
     }
-    print_processor();
-    println!("- One build of each side, the Rust's first; what the Rust allocates is part of its time. Answer, table and occupancy were compared, and are the same.\n");
     let keys: Vec<u64> = (0..count as u64).map(bdz::mix64).collect();
     // different, since the factor is odd
     let values: Vec<u32> = (0..count as u32)
         .map(|number| number.wrapping_mul(0x9e37_79b1) % MODULUS)
         .collect();
     let assigned = Build::Assigned(&keys, &values, MODULUS);
-    let heading = ["what", "keys", "ours, s", "Rust, s", "ratio", "ours, ns a key"];
+    let heading = [
+        "what",
+        "keys",
+        "ours, s",
+        "Rust, s",
+        "ratio",
+        "ours, ns a key",
+    ];
     let mut rows = vec![heading.map(str::to_owned).to_vec()];
     for (what, asked) in [
         ("build assigned, modulus 2^30", assigned),
@@ -46,6 +51,11 @@ pub fn print_page() -> ExitCode {
     ] {
         rows.push(row(what, count, asked));
     }
+    print_processor();
+    println!(
+        "- One build of each side, the Rust's first; what the Rust allocates is part of its time. \
+         Answer, table and occupancy were compared, and are the same.\n"
+    );
     print_rows(&rows, 1);
     ExitCode::SUCCESS
 }
@@ -62,13 +72,18 @@ fn row(what: &str, count: usize, asked: Build) -> Vec<String> {
     build.assert_same(what, rust);
     let each = ours * 1e9 / count as f64;
     let numbers = [ours, theirs, ours / theirs, each].map(short);
-    [what.to_owned(), count.to_string()].into_iter().chain(numbers).collect()
+    [what.to_owned(), count.to_string()]
+        .into_iter()
+        .chain(numbers)
+        .collect()
 }
 
 /// The bytes that can be had without driving others out.
 fn available() -> Option<u64> {
     let told = fs::read_to_string("/proc/meminfo").ok()?;
-    let line = told.lines().find_map(|line| line.strip_prefix("MemAvailable:"))?;
+    let line = told
+        .lines()
+        .find_map(|line| line.strip_prefix("MemAvailable:"))?;
     let kibibytes: u64 = line.trim().strip_suffix("kB")?.trim().parse().ok()?;
     Some(kibibytes << 10)
 }

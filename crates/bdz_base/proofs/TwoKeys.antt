@@ -1,7 +1,6 @@
 -- The vertices of two named keys at the first seed, computed: bdz_table exhibits their builds, and cannot open the seal itself.
 -- Assumes nothing.
 use mathlib.Core.Path.{_≡_, refl, _∙_}
-use Rattle.bdz_base.specs.declared.verts.Verts.{Verts}
 use Rattle.bdz_base.specs.declared.verts.Kind.the-variants.{Assigned, Compact}
 use Rattle.bdz_base.specs.Mix.{mix64Of, nextOf, seedOf, stepOf, stateAt, seedAt}
 use Rattle.bdz_base.specs.Verts.{hashOf, movedOff, apart, hash3Of, hash3PartiteOf, vertsOf, sealed-assigned, sealed-compact}
