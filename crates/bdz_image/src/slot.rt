@@ -49,15 +49,12 @@ fn take_bits(bytes: &[u8], at: u64, k: u32, slot: u64) -> u64
     )
 }
 
-// The slot after the first page of its word came. Mostly that is the whole word, and its width is the same for all: a loop makes the masks once.
+// The slot after the first page of its word came.
 fn take_low(bytes: &[u8], v: u32, width: u32, slot: u64) -> u64
     requires { ⌜ width ≤ 32 ⌝ }
     ensures { λ r. ⌜ r ≡ takenLow width (now (bytes .entry)) v slot ⌝ }
 {
     let at = v as u64 * width as u64 % 32768;
-    if at + width as u64 <= 32768 {
-        return take_bits(bytes, at, width, slot);
-    }
     take_bits(bytes, at, cut_of(v, width), slot)
 }
 
@@ -75,13 +72,17 @@ fn take_high(bytes: &[u8], v: u32, width: u32, slot: u64) -> u64
     )
 }
 
-// The slot of the word at v after a page came.
+// The slot of the word at v after a page came. Most words lie in one page, and their width is that of all: a loop makes its masks once.
 pub(crate) fn slot_take(page: u32, bytes: &[u8], v: u32, width: u32, slot: u64) -> u64
     requires { ⌜ width ≤ 32 ⌝ }
     ensures { λ r. ⌜ r ≡ takenOf width page (now (bytes .entry)) v slot ⌝ }
 {
-    let first = v as u64 * width as u64 / 32768;
+    let bit = v as u64 * width as u64;
+    let first = bit / 32768;
     if page as u64 == first {
+        if bit % 32768 + width as u64 <= 32768 {
+            return take_bits(bytes, bit % 32768, width, slot);
+        }
         return take_low(bytes, v, width, slot);
     }
     if page as u64 == first + 1 {
