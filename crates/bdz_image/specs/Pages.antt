@@ -16,7 +16,8 @@ unfoldable pub onceOf : (ℕ → ℕ) → ℕ → ℕ → ℕ → List ℕ
 onceOf f zero i next = []
 onceOf f (suc k) i next = cond (ltb (f i) next) (onceOf f k (i + 1) next) (f i ∷ onceOf f k (i + 1) (f i + 1))
 
--- in the middle of n numbers of a row: `count` of them are listed, with zeros behind, and those from the i-th on that are not below next are the others
+-- in the middle of n numbers of a row: `count` of them are listed, with zeros behind, and the others are those from the
+-- i-th on that are not below next
 pub record Listing (f : ℕ → ℕ) (n count next i : ℕ) (pages : List ℕ) : Type 0 where
   pub few : count ≤ i
   pub within : i ≤ n

@@ -44,8 +44,11 @@ struct Listed {
 
 // One page of the row is listed, if it is not behind.
 fn note(order: &[u64], i: usize, width: u32, so_far: Listed, pages: &mut [u32]) -> Listed
-    requires { ⌜ (0 < width) × (width ≤ 32) × (i < 2 * length (now order)) × Listing (ownPage width (now order)) (2 * length (now order)) («so_far» .count) («so_far» .next) i (now pages) ⌝ }
-    ensures { λ r. ⌜ Listing (ownPage width (now (order .entry))) (2 * length (now (order .entry))) (r .count) (r .next) (i + 1) (now (pages .exit)) ⌝ }
+    requires { ⌜ (0 < width) × (width ≤ 32) × (i < 2 * length (now order))
+        × Listing (ownPage width (now order)) (2 * length (now order)) («so_far» .count) («so_far» .next) i
+        (now pages) ⌝ }
+    ensures { λ r. ⌜ Listing (ownPage width (now (order .entry))) (2 * length (now (order .entry))) (r .count) (r .next)
+        (i + 1) (now (pages .exit)) ⌝ }
 {
     let page = own_page(order, i, width);
     let count = so_far.count;
@@ -61,8 +64,11 @@ fn note(order: &[u64], i: usize, width: u32, so_far: Listed, pages: &mut [u32]) 
 
 // Both pages of an entry's word. Mostly the last of them is listed already, and then the first is too.
 fn note_both(order: &[u64], i: usize, width: u32, so_far: Listed, pages: &mut [u32]) -> Listed
-    requires { ⌜ (0 < width) × (width ≤ 32) × (i < length (now order)) × Listing (ownPage width (now order)) (2 * length (now order)) («so_far» .count) («so_far» .next) (2 * i) (now pages) ⌝ }
-    ensures { λ r. ⌜ Listing (ownPage width (now (order .entry))) (2 * length (now (order .entry))) (r .count) (r .next) (2 * (i + 1)) (now (pages .exit)) ⌝ }
+    requires { ⌜ (0 < width) × (width ≤ 32) × (i < length (now order))
+        × Listing (ownPage width (now order)) (2 * length (now order)) («so_far» .count) («so_far» .next) (2 * i)
+        (now pages) ⌝ }
+    ensures { λ r. ⌜ Listing (ownPage width (now (order .entry))) (2 * length (now (order .entry))) (r .count) (r .next)
+        (2 * (i + 1)) (now (pages .exit)) ⌝ }
 {
     if last_page(order[i], width) < so_far.next {
         return so_far;
@@ -74,7 +80,8 @@ fn note_both(order: &[u64], i: usize, width: u32, so_far: Listed, pages: &mut [u
 // The pages of the words of an order, rising, each once, and zeros behind them. How many they are.
 pub(crate) fn list(order: &[u64], width: u32, pages: &mut [u32]) -> usize
     requires { ⌜ (0 < width) × (width ≤ 32) × (length (now pages) ≡ 2 * length (now order)) ⌝ }
-    ensures { λ r. ⌜ (r ≡ length (listOf width (now (order .entry)))) × (now (pages .exit) ≡ padded (length (now (pages .entry))) (listOf width (now (order .entry)))) ⌝ }
+    ensures { λ r. ⌜ (r ≡ length (listOf width (now (order .entry))))
+        × (now (pages .exit) ≡ padded (length (now (pages .entry))) (listOf width (now (order .entry)))) ⌝ }
 {
     zero(pages);
     let mut so_far = Listed { count: 0, next: 0 };

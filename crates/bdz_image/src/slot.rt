@@ -72,7 +72,8 @@ fn take_high(bytes: &[u8], v: u32, width: u32, slot: u64) -> u64
     )
 }
 
-// The slot of the word at v after a page came. Most words lie in one page, and their width is that of all: a loop makes its masks once.
+// The slot of the word at v after a page came. Most words lie in one page, and their width is that of all: a loop makes
+// its masks once.
 pub(crate) fn slot_take(page: u32, bytes: &[u8], v: u32, width: u32, slot: u64) -> u64
     requires { ⌜ width ≤ 32 ⌝ }
     ensures { λ r. ⌜ r ≡ takenOf width page (now (bytes .entry)) v slot ⌝ }
