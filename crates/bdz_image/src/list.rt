@@ -16,24 +16,24 @@ fn zero(pages: &mut [u32])
     }
 }
 
-// The first page of an entry's word, or with odd 1 the last.
+// The last page of an entry's word.
+fn last_page(entry: u64, width: u32) -> u32
+    requires { ⌜ (0 < width) × (width ≤ 32) ⌝ }
+    ensures { λ r. ⌜ (r ≡ lastPage width (vertexIn entry)) × (r < 2 ^ 23) ⌝ }
+{
+    (((entry >> 32) * width as u64 + (width as u64 - 1)) / 32768) as u32
+}
+
+// The first page of an entry's word, or with odd i the last.
 fn own_page(order: &[u64], i: usize, width: u32) -> u32
     requires { ⌜ (i < 2 * length (now order)) × (0 < width) × (width ≤ 32) ⌝ }
     ensures { λ r. ⌜ (r ≡ ownPage width (now (order .entry)) i) × (r < 2 ^ 23) ⌝ }
 {
-    let bit = (order[i / 2] >> 32) * width as u64;
+    let entry = order[i / 2];
     if i % 2 == 0 {
-        return (bit / 32768) as u32;
+        return ((entry >> 32) * width as u64 / 32768) as u32;
     }
-    ((bit + (width as u64 - 1)) / 32768) as u32
-}
-
-// The last page of an entry's word.
-fn last_page(entry: u64, width: u32) -> u32
-    requires { ⌜ (0 < width) × (width ≤ 32) ⌝ }
-    ensures { λ r. ⌜ r ≡ lastPage width (vertexIn entry) ⌝ }
-{
-    (((entry >> 32) * width as u64 + (width as u64 - 1)) / 32768) as u32
+    last_page(entry, width)
 }
 
 // How many pages are listed, and the first number behind them.

@@ -19,7 +19,7 @@ last-page-requires c κs = search needs
 returns : tie.Need-returns
 returns c =
     let a = c .before .before .before .before .before .before .args in
-    let e = c .before .before .last-page .ensures in
+    let e = c .before .before .last-page .ensures .0 in
     let low = both-below (a .width) (a .order .now) (a .i) (a .so-far .next) (omega arith) in
     listing-skip-two (ownPage (a .width) (a .order .now)) (a .i) (c .before .before .before .before .before .before .pre .3) (omega arith) (low .0) (low .1)
 
