@@ -111,6 +111,13 @@ module _ (w : ℕ) (es : List ℕ) where
   unfolding ownPage
   odd i e = rw (e, one-mul (w - 1))
 
+  -- where the last page of an entry's word is below a number, the first is too
+  pub both-below : (i next : ℕ) → lastPage w (vertexIn (getD es i 0)) < next → (ownPage w es (2 * i) < next) × (ownPage w es (2 * i + 1) < next)
+  both-below i next h =
+      let d : 2 * i / 2 ≡ i = omega arith in
+      let e : (2 * i + 1) / 2 ≡ i = omega arith in
+      (omega (arith, even (2 * i) (omega arith), ap (λ (t : ℕ). vertexIn (getD es t 0) * w) d), omega (arith, odd (2 * i + 1) (omega arith), ap (λ (t : ℕ). vertexIn (getD es t 0) * w) e))
+
   parity : (i : ℕ) → (i % 2 ≡ 0) ⊎ (i % 2 ≡ 1)
   parity i = go (decEq (i % 2) 0)
     where

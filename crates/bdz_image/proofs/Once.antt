@@ -1,7 +1,7 @@
 -- Numbers of a rising row, each once. Assumes nothing.
-use mathlib.Core.Path.{_≡_, refl, sym, ap, _∙_}
+use mathlib.Core.Path.{_≡_, refl, sym, ap, _∙_, subst}
 use mathlib.Core.List.{List, [], _∷_, _++_, append-nil}
-use Prim.Native.Nat.{ℕ, zero, suc, _+_, _-_, _≤_, _<_}
+use Prim.Native.Nat.{ℕ, zero, suc, _+_, _-_, _*_, _≤_, _<_}
 use native.Mathlib.Numerals.{add-one, unary-clauses}
 use native.Mathlib.Nat.{sub-zero}
 use native.Mathlib.Omega.{arith}
@@ -9,7 +9,7 @@ use lib.ListN.{length, set, take, drop, replicate, length-replicate, replicate-a
 use lib.Seq.{drop-drop, append-snoc, take-suc-set, drop-set-lt, length-take-le}
 use borrow.Author.Tests.{le-ltb, lt-ltb}
 use Rattle.bdz_base.specs.Buffer.{tab}
-use Rattle.bdz_image.specs.Pages.{onceOf, padded}
+use Rattle.bdz_image.specs.Pages.{onceOf, Listing, padded}
 
 pub tab-zeros : (n : ℕ) → tab (λ _. 0) n ≡ replicate {A = ℕ} n 0
 unfolding tab
@@ -39,23 +39,16 @@ module _ (f : ℕ → ℕ) where
   unfolding onceOf
   once-end i next = refl
 
-  -- the listing's loop: `count` pages stand in the list, and those of the row from i on, with these before them, are all
-  pub record Listing (n count next i : ℕ) (pages : List ℕ) : Type 0 where
-    pub few : count ≤ i
-    pub within : i ≤ n
-    pub long : length pages ≡ n
-    pub listed : take count pages ++ onceOf f (n - i) i next ≡ onceOf f n 0 0
-    pub clear : drop count pages ≡ replicate (n - count) 0
-
-  pub listing-start : (n : ℕ) → Listing n 0 0 0 (replicate n 0)
+  pub listing-start : (n : ℕ) → Listing f n 0 0 0 (replicate n 0)
   listing-start n =
       record { few = omega arith; within = omega arith; long = length-replicate n 0; listed = rw sub-zero; clear = rw sub-zero }
 
-  pub listing-from : (n : ℕ) {pages : List ℕ} → pages ≡ replicate n 0 → Listing (length pages) 0 0 0 pages
-  listing-from n {pages} e = rw (e, length-replicate {A = ℕ} n 0) (listing-start n)
+  -- two places of the row on
+  pub listing-twice : (i : ℕ) {n count next : ℕ} {pages : List ℕ} → Listing f n count next (2 * i + 1 + 1) pages → Listing f n count next (2 * (i + 1)) pages
+  listing-twice i {n} {count} {next} {pages} l = let z : 2 * i + 1 + 1 ≡ 2 * (i + 1) = omega arith in subst (λ (t : ℕ). Listing f n count next t pages) z l
 
   module _ {n count next i : ℕ} {pages : List ℕ} where
-    pub listing-skip : Listing n count next i pages → i < n → f i < next → Listing n count next (i + 1) pages
+    pub listing-skip : Listing f n count next i pages → i < n → f i < next → Listing f n count next (i + 1) pages
     listing-skip l h k =
         let s : n - i ≡ suc (n - (i + 1)) = omega arith in
         let g = l .few in
@@ -67,7 +60,7 @@ module _ (f : ℕ → ℕ) where
           clear = l .clear;
         }
 
-    pub listing-put : Listing n count next i pages → i < n → next ≤ f i → Listing n (count + 1) (f i + 1) (i + 1) (set pages count (f i))
+    pub listing-put : Listing f n count next i pages → i < n → next ≤ f i → Listing f n (count + 1) (f i + 1) (i + 1) (set pages count (f i))
     listing-put l h k =
         let s : n - i ≡ suc (n - (i + 1)) = omega arith in
         let g = l .few in
@@ -86,7 +79,7 @@ module _ (f : ℕ → ℕ) where
               ∙ ap (λ (m : ℕ). replicate m 0) z;
         }
 
-    pub listing-end : Listing n count next i pages → n ≤ i → (count ≡ length (onceOf f n 0 0)) × (pages ≡ padded n (onceOf f n 0 0))
+    pub listing-end : Listing f n count next i pages → n ≤ i → (count ≡ length (onceOf f n 0 0)) × (pages ≡ padded n (onceOf f n 0 0))
     listing-end l h =
         let g = l .few in
         let u = l .within in
@@ -95,3 +88,6 @@ module _ (f : ℕ → ℕ) where
         let e : take count pages ≡ onceOf f n 0 0 = sym (append-nil (take count pages)) ∙ ap (λ (t : List ℕ). take count pages ++ t) (sym (ap (λ (m : ℕ). onceOf f m i next) z ∙ once-end i next)) ∙ l .listed in
         let c : count ≡ length (onceOf f n 0 0) = sym (length-take-le count pages (omega arith)) ∙ ap length e in
         (c, sym (take-append-drop count pages) ∙ (λ j. e j ++ l .clear j) ∙ ap (λ (m : ℕ). onceOf f n 0 0 ++ replicate (n - m) 0) c)
+
+  pub listing-skip-two : (i : ℕ) {n count next : ℕ} {pages : List ℕ} → Listing f n count next (2 * i) pages → 2 * i + 1 < n → f (2 * i) < next → f (2 * i + 1) < next → Listing f n count next (2 * (i + 1)) pages
+  listing-skip-two i l h p q = listing-twice i (listing-skip (listing-skip l (omega arith) p) h q)

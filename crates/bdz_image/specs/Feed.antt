@@ -37,10 +37,13 @@ putLow old x k = old / 2 ^ k * 2 ^ k + x
 abbrev pub putHigh : ℕ → ℕ → ℕ → ℕ
 putHigh old x k = x * 2 ^ k + old % 2 ^ k
 
+-- a slot after the k lowest bits of its word came, which these bytes have from the bit `at` on
+abbrev pub takenBits : ℕ → List ℕ → ℕ → ℕ → ℕ
+takenBits k bytes at s = slot (putLow (s / 2 ^ 32) 0 k) (putLow (s % 2 ^ 32) (bitsAt k bytes at) k)
+
 -- a slot of the word at v, after page p came with these bytes
 unfoldable pub takenLow : ℕ → List ℕ → ℕ → ℕ → ℕ
-takenLow w bytes v s =
-    slot (putLow (s / 2 ^ 32) 0 (cutOf w v)) (putLow (s % 2 ^ 32) (bitsAt (cutOf w v) bytes (atOf w v)) (cutOf w v))
+takenLow w bytes v s = takenBits (cutOf w v) bytes (atOf w v) s
 
 unfoldable pub takenHigh : ℕ → List ℕ → ℕ → ℕ → ℕ
 takenHigh w bytes v s =
