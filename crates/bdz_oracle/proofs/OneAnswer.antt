@@ -106,7 +106,7 @@ pub one-bdz-rank1-no : (κs : _) (a : _) → OneResult (bdz-rank1-no.Post κs a)
 one-bdz-rank1-no κs a x y s t p q = p ∙ sym q
 
 pub one-bdz-index-batch : (κs : _) (a : _) → OneOutcome (λ s. (s .1 .1 .1 .1 .1 .1 .1 .1 .1 .0 .now ∷ s .1 .1 .1 .1 .1 .1 .1 .1 .1 .1 .0 .now ∷ [])) (bdz-index-batch.Post κs a)
-one-bdz-index-batch κs a x y s t p q = (p .number-is ∙ sym (q .number-is), rw (p .key-room-is, p .out-is, q .key-room-is, q .out-is))
+one-bdz-index-batch κs a x y s t p q = (p .number-is ∙ sym (q .number-is), rw (p .key-room-is, p .out-is, q .key-room-is, q .out-is, p .number-is, q .number-is))
 
 pub one-bdz-index-words : (κs : _) (a : _) → OneOutcome (λ s. s .1 .1 .1 .1 .1 .1 .1 .1 .1 .0 .now) (bdz-index-words.Post κs a)
 one-bdz-index-words κs a x y s t p q = (p .number-is ∙ sym (q .number-is), p .after-is ∙ sym (q .after-is))
@@ -134,7 +134,7 @@ one-bdz-g-page-need κs a x y s t p q = p ∙ sym q
 
 pub one-bdz-feed-start : (κs : _) (a : _) → OneOutcome (λ s. (s .1 .1 .1 .1 .1 .1 .1 .1 .0 .now ∷ s .1 .1 .1 .1 .1 .1 .1 .1 .1 .0 .now ∷ s .1 .1 .1 .1 .1 .1 .1 .1 .1 .1 .0 .now ∷ s .1 .1 .1 .1 .1 .1 .1 .1 .1 .1 .1 .0 .now ∷ s .1 .1 .1 .1 .1 .1 .1 .1 .1 .1 .1 .1 .0 .now ∷ [])) (bdz-feed-start.Post κs a)
 one-bdz-feed-start κs a x y s t p q =
-    (p .number-is ∙ sym (q .number-is), rw (p .key-room-is, p .order-is, p .slots-are, p .pages-are, p .told-is, q .key-room-is, q .order-is, q .slots-are, q .pages-are, q .told-is))
+    (p .number-is ∙ sym (q .number-is), rw (p .key-room-is, p .order-is, p .slots-are, p .pages-are, p .told-is, q .key-room-is, q .order-is, q .slots-are, q .pages-are, q .told-is, p .number-is, q .number-is))
 
 pub one-bdz-feed-page : (κs : _) (a : _) → OneOutcome (λ s. s .1 .1 .1 .1 .1 .1 .1 .1 .1 .1 .0 .now) (bdz-feed-page.Post κs a)
 one-bdz-feed-page κs a x y s t p q = (p .number-is ∙ sym (q .number-is), p .slots-are ∙ sym (q .slots-are))
