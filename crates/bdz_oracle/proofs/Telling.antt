@@ -51,16 +51,6 @@ five (x ∷ y ∷ z ∷ []) h = absurd (omega arith)
 five (x ∷ y ∷ z ∷ u ∷ []) h = absurd (omega arith)
 five (x ∷ y ∷ z ∷ u ∷ v ∷ old) h = refl
 
--- the six words of a build's
-pub six : (old : List ℕ) {a b c d e f : ℕ} → 6 ≤ length old → set (set (set (set (set (set old 0 a) 1 b) 2 c) 3 d) 4 e) 5 f ≡ over (a ∷ b ∷ c ∷ d ∷ e ∷ f ∷ []) old
-six [] h = absurd (omega arith)
-six (x ∷ []) h = absurd (omega arith)
-six (x ∷ y ∷ []) h = absurd (omega arith)
-six (x ∷ y ∷ z ∷ []) h = absurd (omega arith)
-six (x ∷ y ∷ z ∷ u ∷ []) h = absurd (omega arith)
-six (x ∷ y ∷ z ∷ u ∷ v ∷ []) h = absurd (omega arith)
-six (x ∷ y ∷ z ∷ u ∷ v ∷ w ∷ old) h = refl
-
 -- the one of an ask
 pub one : (old : List ℕ) {a : ℕ} → 1 ≤ length old → set old 0 a ≡ over (a ∷ []) old
 one [] h = absurd (omega arith)
