@@ -1,21 +1,21 @@
 -- The exported builds: what is read before them, and their promises from that of the build. Assumes nothing.
-use mathlib.Core.Path.{_≡_, refl, sym, ap, subst, _∙_}
+use mathlib.Core.Path.{_≡_, refl, sym, subst, _∙_}
 use mathlib.Core.Bool.{Bool, true, false, cond, not}
-use mathlib.Core.List.{List, [], _∷_}
+use mathlib.Core.List.{List, []}
 use Prim.Native.Nat.{ℕ, _≤_, zero-le}
 use lib.Dec.{eqb, ltb}
 use lib.ListN.{length, take}
-use borrow.Author.Tests.{ltb-false, eqb-true, eq-eqb, not-false}
-use Rattle.bdz_base.specs.Buffer.{over, written}
+use borrow.Author.Tests.{ltb-false, eqb-true, not-false}
+use Rattle.bdz_base.specs.Buffer.{over}
 use Rattle.bdz_base.specs.Refusal.{refuse}
 use Rattle.bdz_base.proofs.Buffers.{length-tab}
-use Rattle.bdz_table.specs.Build.{assignedEarly, compactEarly, assignedTable, compactTable, compactOccupancy, refusedBuild, lengthsOf, AssignedFrom, BuiltAssigned, CompactFrom, BuiltCompact}
+use Rattle.bdz_table.specs.Build.{assignedEarly, compactEarly, assignedTable, compactTable, compactOccupancy, refusedBuild, lengthsOf, BuiltAssigned, BuiltCompact}
 use Rattle.bdz_table.specs.declared.index.Built.{Built}
 use Rattle.bdz_table.specs.declared.needs.Lengths.{Lengths}
 use Rattle.bdz_table.specs.declared.pairs.Pair.{Pair}
 use Rattle.bdz_table.proofs.Begun.{refuse-none}
 use Rattle.bdz_oracle.specs.Keys.{keyCount, keyAt}
-use Rattle.bdz_oracle.specs.Building.{keysIn, valueCount, valueAt, valuesIn, assignedNo, compactNo, readOf, ReadAssigned, ReadCompact, settled, toldBuilt, AssignedTold, ToldAssigned, CompactTold, ToldCompact}
+use Rattle.bdz_oracle.specs.Building.{keysIn, valueCount, valueAt, valuesIn, assignedNo, compactNo, ReadAssigned, ReadCompact, settled, toldBuilt, AssignedTold, ToldAssigned, CompactTold, ToldCompact}
 use Rattle.bdz_oracle.specs.declared.building.Read.{Read}
 use Rattle.bdz_oracle.proofs.Telling.{read-part}
 

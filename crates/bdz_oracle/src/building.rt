@@ -1,6 +1,5 @@
 // The builds, exported.
 ghost use mathlib.Core.Path.{_≡_};
-ghost use mathlib.Core.List.{_∷_};
 ghost use Prim.Native.Nat.{_≤_};
 ghost use lib.ListN.{length};
 ghost use Rattle.bdz_base.specs.Buffer.{over};
