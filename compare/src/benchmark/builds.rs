@@ -34,7 +34,7 @@ impl<'a> OurBuild<'a> {
             keys: asked.key_bytes(),
             values: asked.value_bytes(),
             needs,
-            loan: asked.loan(rng, needs),
+            loan: Loan::new(rng, needs),
             supers: vec![0; supers],
         }
     }
@@ -129,9 +129,5 @@ fn build(bench: &mut Bench, rng: &mut Rng, what: &str, asked: Build) {
         expected.answer(),
         "{what}: answers differ"
     );
-    assert_eq!(
-        ours.loan.fault(&ours.needs, expected.after()),
-        None,
-        "{what}"
-    );
+    assert_eq!(asked.fault(&ours.loan, expected.after()), None, "{what}");
 }
