@@ -46,6 +46,7 @@ pub record Told (need : ℕ) (no : ℕ) (words answer : List ℕ) (number : ℕ)
 
 -- ---- what comes before a build
 
+-- what is lent, by lengths alone
 abbrev pub lengthsFor : ℕ → ℕ → ℕ → ℕ → ℕ → ℕ → ℕ → ℕ → Lengths
 lengthsFor table degrees xors queue order marks occupancy seen =
     record {
