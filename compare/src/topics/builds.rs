@@ -243,6 +243,8 @@ pub enum Room {
     Few,
     /// None, but for these rooms.
     Empty,
+    /// As few, with that number's room too short by any number of elements.
+    FewAndShort(usize),
 }
 
 impl Room {
@@ -264,8 +266,11 @@ impl Room {
             match self {
                 Self::OneShort(short) if short == number => *length -= 1,
                 Self::Shorter(short) if short == number => *length = rng.below_usize(*length),
-                Self::Few | Self::Empty if number < Sizes::ROOMS => *length += more(rng),
-                Self::Few => *length = rng.below_usize(8),
+                Self::FewAndShort(short) if short == number => *length = rng.below_usize(*length),
+                Self::Few | Self::Empty | Self::FewAndShort(_) if number < Sizes::ROOMS => {
+                    *length += more(rng);
+                }
+                Self::Few | Self::FewAndShort(_) => *length = rng.below_usize(8),
                 Self::Empty => *length = 0,
                 _ if longer => *length += rng.below_usize(9),
                 _ => (),
@@ -330,8 +335,8 @@ pub fn check_rooms(
 ) -> Result<(), Difference> {
     let rooms = build.needs().all().into_iter().take(Sizes::ROOMS);
     for (number, _) in rooms.enumerate().filter(|&(_, need)| need > 0) {
-        for room in [Room::OneShort(number), Room::Shorter(number)] {
-            check_status(tally, rng, what, build, room, NO_ROOM)?;
+        for _ in 0..2 {
+            check_status(tally, rng, what, build, Room::FewAndShort(number), NO_ROOM)?;
         }
     }
     Ok(())
