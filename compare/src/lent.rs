@@ -1,6 +1,7 @@
 //! The buffers that are lent to a call: dirty before it, fenced in, and judged after it; and those
 //! that it only reads, fenced in as well.
 
+use crate::ours::BUILT_WORDS;
 use crate::rng::Rng;
 use std::fmt::{Formatter, LowerHex};
 
@@ -224,6 +225,8 @@ fn dirt<T: Item>(start: u64, at: usize) -> T {
 /// How many elements each buffer needs, or has.
 #[derive(Clone, Copy, Default, Debug)]
 pub struct Sizes {
+    pub key_room: usize,
+    pub value_room: usize,
     pub table: usize,
     pub occupancy: usize,
     pub degrees: usize,
@@ -235,7 +238,9 @@ pub struct Sizes {
 }
 
 impl Sizes {
-    pub const COUNT: usize = 8;
+    pub const COUNT: usize = 10;
+    /// The rooms into which keys and values are read come first, as their check does.
+    pub const ROOMS: usize = 2;
 
     pub fn all(&self) -> [usize; Self::COUNT] {
         let mut copy = *self;
@@ -244,6 +249,8 @@ impl Sizes {
 
     pub fn all_mut(&mut self) -> [&mut usize; Self::COUNT] {
         [
+            &mut self.key_room,
+            &mut self.value_room,
             &mut self.table,
             &mut self.occupancy,
             &mut self.degrees,
@@ -262,13 +269,20 @@ impl Sizes {
             .zip(needs.all())
             .any(|(&size, need)| size < need)
     }
+
+    /// Whether the keys or the values have no room.
+    pub fn lack_rooms(&self, needs: &Self) -> bool {
+        self.key_room < needs.key_room || self.value_room < needs.value_room
+    }
 }
 
 /// How a build must leave its buffers.
+#[derive(Clone, Copy)]
 pub enum After<'a> {
     /// It ended before it needed them.
     Untouched,
-    /// The needed part of the scratch buffers is zeros, and there is no table.
+    /// The needed part of the scratch buffers is zeros, the keys and the values are read, and there is
+    /// no table.
     Cleared,
     /// The same, with this table and occupancy.
     Built(&'a [u32], &'a [u8]),
@@ -292,12 +306,12 @@ pub struct Loan {
 
 impl Loan {
     /// The index of a build: n, m, seed, modulus and width. Its status stands before them.
-    pub const ANSWER: usize = 5;
+    pub const ANSWER: usize = BUILT_WORDS - 1;
 
-    pub fn new(rng: &mut Rng, keys: usize, values: usize, lengths: Sizes) -> Self {
+    pub fn new(rng: &mut Rng, lengths: Sizes) -> Self {
         Self {
-            key_room: Lent::new(rng, keys),
-            value_room: Lent::new(rng, values),
+            key_room: Lent::new(rng, lengths.key_room),
+            value_room: Lent::new(rng, lengths.value_room),
             table: Lent::new(rng, lengths.table),
             occupancy: Lent::new(rng, lengths.occupancy),
             degrees: Lent::new(rng, lengths.degrees),
@@ -306,7 +320,7 @@ impl Loan {
             order: Lent::new(rng, lengths.order),
             marks: Lent::new(rng, lengths.marks),
             seen: Lent::new(rng, lengths.seen),
-            answer: Lent::new(rng, 1 + Self::ANSWER),
+            answer: Lent::new(rng, BUILT_WORDS),
             lengths,
         }
     }
@@ -344,17 +358,27 @@ impl Loan {
         index.try_into().expect("a loan has room for the answer")
     }
 
-    /// The first place that a build left otherwise than it must. What the rooms for keys and values
-    /// hold is not judged, and the answer is for the caller to judge.
-    pub fn fault(&self, needs: &Sizes, after: After) -> Option<String> {
+    /// The first place that a build of these keys and values left otherwise than it must. The answer
+    /// is for the caller to judge.
+    pub fn fault(
+        &self,
+        needs: &Sizes,
+        keys: &[u64],
+        values: &[u32],
+        after: After,
+    ) -> Option<String> {
         let (table, occupancy) = match after {
             After::Built(table, occupancy) => (Left::New(table), Left::New(occupancy)),
             _ => (Left::Untouched, Left::Untouched),
         };
         let cleared = !matches!(after, After::Untouched);
+        let (keys, values) = match cleared {
+            true => (Left::New(keys), Left::New(values)),
+            false => (Left::Untouched, Left::Untouched),
+        };
         self.key_room
-            .fault("key_room", Left::Anything)
-            .or_else(|| self.value_room.fault("value_room", Left::Anything))
+            .fault("key_room", keys)
+            .or_else(|| self.value_room.fault("value_room", values))
             .or_else(|| self.answer.fault("answer", Left::Anything))
             .or_else(|| self.table.fault("table", table))
             .or_else(|| self.occupancy.fault("occupancy", occupancy))

@@ -1,6 +1,6 @@
 //! The functions of the static library, each behind a safe call.
 
-use crate::lent::{Loan, Pair};
+use crate::lent::{Lent, Loan, Pair};
 
 /// The status of a call that did what it was asked.
 pub const DONE: u32 = 0;
@@ -51,6 +51,9 @@ pub const NO_SUCH_KEY: u32 = 20;
 /// feed.
 pub const MOST: u32 = 1 << 30;
 
+/// The words of a build's answer: its status, n, m, seed, modulus and width.
+pub const BUILT_WORDS: usize = 6;
+
 extern "C" {
     fn bdz_splitmix64(state: u64) -> u64;
     fn bdz_splitmix64_state(state: u64) -> u64;
@@ -87,19 +90,16 @@ extern "C" {
     );
     fn bdz_unpack_g_at(body: *const u8, body_length: usize, v: u32, width: u32) -> u32;
     fn bdz_extract_g_window(part: *const u8, part_length: usize, start: u64, width: u32) -> u32;
-    fn bdz_read_keys(keys: *const u8, keys_length: usize, out: *mut u64, out_length: usize) -> u32;
-    fn bdz_read_values(
+    fn bdz_build_assigned(
+        keys: *const u8,
+        keys_length: usize,
         values: *const u8,
         values_length: usize,
-        out: *mut u32,
-        out_length: usize,
-    ) -> u32;
-    fn bdz_build_assigned(
-        keys: *const u64,
-        keys_length: usize,
-        values: *const u32,
-        values_length: usize,
         modulus: u32,
+        key_room: *mut u64,
+        key_room_length: usize,
+        value_room: *mut u32,
+        value_room_length: usize,
         table: *mut u32,
         table_length: usize,
         degrees: *mut u8,
@@ -114,12 +114,13 @@ extern "C" {
         marks_length: usize,
         seen: *mut u8,
         seen_length: usize,
-        answer: *mut u64,
-        answer_length: usize,
+        answer: *mut [u64; BUILT_WORDS],
     );
     fn bdz_build_compact(
-        keys: *const u64,
+        keys: *const u8,
         keys_length: usize,
+        key_room: *mut u64,
+        key_room_length: usize,
         table: *mut u32,
         table_length: usize,
         occupancy: *mut u8,
@@ -134,8 +135,7 @@ extern "C" {
         order_length: usize,
         marks: *mut u8,
         marks_length: usize,
-        answer: *mut u64,
-        answer_length: usize,
+        answer: *mut [u64; BUILT_WORDS],
     );
     fn bdz_popcount_bits(occ: *const u8, occ_length: usize, lo: u64, hi: u64) -> u32;
     fn bdz_supers_from_occ_bytes(
@@ -385,25 +385,10 @@ pub fn extract_g_window(part: &[u8], start: u64, width: u32) -> u32 {
     unsafe { bdz_extract_g_window(part.as_ptr(), part.len(), start, width) }
 }
 
-/// The words of keys that come as bytes.
-pub fn read_keys(keys: &[u8], out: &mut [u64]) -> u32 {
-    unsafe { bdz_read_keys(keys.as_ptr(), keys.len(), out.as_mut_ptr(), out.len()) }
-}
-
-/// The words of values that come as bytes.
-pub fn read_values(values: &[u8], out: &mut [u32]) -> u32 {
-    unsafe { bdz_read_values(values.as_ptr(), values.len(), out.as_mut_ptr(), out.len()) }
-}
-
-/// The loan has a room for every key and for every value, into which they are read first.
+/// The status of a build: the first word of its answer.
 pub fn build_assigned(keys: &[u8], values: &[u8], modulus: u32, loan: &mut Loan) -> u32 {
     let key_room = loan.key_room.given_mut();
     let value_room = loan.value_room.given_mut();
-    for status in [read_keys(keys, key_room), read_values(values, value_room)] {
-        if status != DONE {
-            return status;
-        }
-    }
     let table = loan.table.given_mut();
     let degrees = loan.degrees.given_mut();
     let xors = loan.xors.given_mut();
@@ -411,14 +396,17 @@ pub fn build_assigned(keys: &[u8], values: &[u8], modulus: u32, loan: &mut Loan)
     let order = loan.order.given_mut();
     let marks = loan.marks.given_mut();
     let seen = loan.seen.given_mut();
-    let answer = loan.answer.given_mut();
     unsafe {
         bdz_build_assigned(
-            key_room.as_ptr(),
-            keys.len() / 8,
-            value_room.as_ptr(),
-            values.len() / 4,
+            keys.as_ptr(),
+            keys.len(),
+            values.as_ptr(),
+            values.len(),
             modulus,
+            key_room.as_mut_ptr(),
+            key_room.len(),
+            value_room.as_mut_ptr(),
+            value_room.len(),
             table.as_mut_ptr(),
             table.len(),
             degrees.as_mut_ptr(),
@@ -433,20 +421,15 @@ pub fn build_assigned(keys: &[u8], values: &[u8], modulus: u32, loan: &mut Loan)
             marks.len(),
             seen.as_mut_ptr(),
             seen.len(),
-            answer.as_mut_ptr(),
-            answer.len(),
+            built_words(&mut loan.answer),
         );
     }
     loan.status()
 }
 
-/// The loan has a room for every key, into which they are read first.
+/// The same of the compact kind.
 pub fn build_compact(keys: &[u8], loan: &mut Loan) -> u32 {
     let key_room = loan.key_room.given_mut();
-    let status = read_keys(keys, key_room);
-    if status != DONE {
-        return status;
-    }
     let table = loan.table.given_mut();
     let occupancy = loan.occupancy.given_mut();
     let degrees = loan.degrees.given_mut();
@@ -454,11 +437,12 @@ pub fn build_compact(keys: &[u8], loan: &mut Loan) -> u32 {
     let queue = loan.queue.given_mut();
     let order = loan.order.given_mut();
     let marks = loan.marks.given_mut();
-    let answer = loan.answer.given_mut();
     unsafe {
         bdz_build_compact(
-            key_room.as_ptr(),
-            keys.len() / 8,
+            keys.as_ptr(),
+            keys.len(),
+            key_room.as_mut_ptr(),
+            key_room.len(),
             table.as_mut_ptr(),
             table.len(),
             occupancy.as_mut_ptr(),
@@ -473,11 +457,16 @@ pub fn build_compact(keys: &[u8], loan: &mut Loan) -> u32 {
             order.len(),
             marks.as_mut_ptr(),
             marks.len(),
-            answer.as_mut_ptr(),
-            answer.len(),
+            built_words(&mut loan.answer),
         );
     }
     loan.status()
+}
+
+/// The words that a build's answer is told in.
+fn built_words(answer: &mut Lent<u64>) -> &mut [u64; BUILT_WORDS] {
+    let words = answer.given_mut();
+    words.try_into().expect("a loan has room for the answer")
 }
 
 pub fn popcount_bits(occ: &[u8], lo: u64, hi: u64) -> u32 {
@@ -522,7 +511,7 @@ pub struct Index<'a> {
     pub supers: &'a [u32],
 }
 
-/// The keys come as bytes, and are read into their room first.
+/// The keys come as bytes, and are read into their room where nothing is refused.
 pub fn index_batch(keys: &[u8], index: Index, key_room: &mut [u64], out: &mut [u32]) -> u32 {
     unsafe {
         bdz_index_batch(
@@ -671,7 +660,7 @@ pub struct Question<'a> {
     pub slots: &'a [u64],
 }
 
-/// The keys come as bytes, and are read into their room first.
+/// The keys come as bytes, and are read into their room where nothing is refused.
 pub fn feed_start(keys: &[u8], index: FeedIndex, occupancy: &[u8], room: FeedRoom) -> u32 {
     unsafe {
         bdz_feed_start(

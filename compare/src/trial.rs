@@ -135,9 +135,13 @@ impl Buffers {
         if !listing.is_empty() {
             listing.resize(6 * keys.len(), 0);
         }
-        let (read, answered) = match agreed.unread {
-            true => (Left::Untouched, Left::Untouched),
-            false => (Left::New(keys), Left::New(&told[..])),
+        let read = match agreed.status {
+            DONE => Left::New(keys),
+            _ => Left::Untouched,
+        };
+        let answered = match agreed.untold {
+            true => Left::Untouched,
+            false => Left::New(&told[..]),
         };
         self.key_room
             .fault("key_room", read)
@@ -149,9 +153,8 @@ impl Buffers {
 /// What a start must come to.
 struct Agreed {
     status: u32,
-    /// The keys come as bytes and need a room of their own, which is tested before all else, together
-    /// with the room for what is told.
-    unread: bool,
+    /// What is told has no room.
+    untold: bool,
     /// None where the start is refused.
     model: Option<Feed>,
 }
@@ -165,14 +168,16 @@ impl Agreed {
             slots: rooms.slots,
             pages: rooms.pages,
         };
-        let unread = rooms.key_room < count || rooms.told < Rooms::TOLD;
-        let status = match unread {
+        let untold = rooms.told < Rooms::TOLD;
+        // The keys come as bytes and need a room of their own, which is tested before all else,
+        // together with the room for what is told.
+        let status = match untold || rooms.key_room < count {
             true => NO_ROOM,
             false => start_status(case.index, count, lengths),
         };
         Self {
             status,
-            unread,
+            untold,
             model: (status == DONE).then(|| Feed::new(case.index, case.keys)),
         }
     }

@@ -53,7 +53,11 @@ const M_OF_ONE: u32 = 21;
 const SLOTS_EARLY: u32 = 22;
 /// Tells the numbers of a refused start.
 const TELLS_REFUSED: u32 = 23;
-const FAULTS: u32 = 24;
+/// Reads the keys into their room before it judges the rest.
+const READS_EARLY: u32 = 24;
+/// Does not tell zeros where the keys have no room.
+const TELLS_NOTHING: u32 = 25;
+const FAULTS: u32 = 26;
 
 const PAGE_BITS: u64 = 32_768;
 
@@ -93,15 +97,26 @@ fn words<const FAULT: u32>(index: FeedIndex) -> u32 {
     }
 }
 
+fn read(keys: &[u8], room: &mut [u64]) {
+    for (place, key) in room.iter_mut().zip(keys.chunks_exact(8)) {
+        *place = u64::from_le_bytes(key.try_into().unwrap());
+    }
+}
+
 fn start<const FAULT: u32>(keys: &[u8], index: FeedIndex, occupancy: &[u8], room: FeedRoom) -> u32 {
     let count = keys.len() / 8;
     let need = 3 * count;
-    if room.key_room.len() < count || room.told.len() < 2 {
+    if room.told.len() < 2 {
         return NO_ROOM;
     }
-    let each = keys.chunks_exact(8);
-    for (place, key) in room.key_room.iter_mut().zip(each) {
-        *place = u64::from_le_bytes(key.try_into().unwrap());
+    if room.key_room.len() < count {
+        if FAULT != TELLS_NOTHING {
+            room.told[..2].fill(0);
+        }
+        return NO_ROOM;
+    }
+    if FAULT == READS_EARLY {
+        read(keys, room.key_room);
     }
     let missing = match FAULT {
         MISSES_32 => u64::from(u32::MAX),
@@ -123,6 +138,9 @@ fn start<const FAULT: u32>(keys: &[u8], index: FeedIndex, occupancy: &[u8], room
     room.told[..2].fill(0);
     if status == DONE || FAULT == TELLS_REFUSED {
         room.told[0] = count as u64;
+    }
+    if status == DONE {
+        read(keys, room.key_room);
     }
     if status != DONE || !lists(index, count as u64) {
         return status;
@@ -360,6 +378,8 @@ fn finds_the_faulty(found: Find) {
         (M_OF_ONE, calls::<M_OF_ONE>()),
         (SLOTS_EARLY, calls::<SLOTS_EARLY>()),
         (TELLS_REFUSED, calls::<TELLS_REFUSED>()),
+        (READS_EARLY, calls::<READS_EARLY>()),
+        (TELLS_NOTHING, calls::<TELLS_NOTHING>()),
     ];
     assert!(faulty.iter().map(|(fault, _)| *fault).eq(1..FAULTS));
     for (fault, calls) in faulty {

@@ -2,8 +2,9 @@
 """walks.py: writes every walk of this table to its Proof.antt. README.md says how a walk is added."""
 import os
 import sys
+from types import SimpleNamespace
 
-from walkgen import Fn, Lent, Proof, Struct, Value, array_laws, atom
+from walkgen import Fn, Lent, Part, Proof, Struct, Value, array_laws, atom
 
 ROOT = os.path.join(os.path.dirname(os.path.abspath(__file__)), "..", "..", "crates")
 SPECS = "Rattle.bdz_table.specs."
@@ -290,42 +291,102 @@ def build_compact_small():
 
 # ---- the exports
 
+READ = Struct("building.Read", "Q", crate="bdz_oracle")
+LENGTHS = ["table", "degrees", "xors", "queue", "order", "marks"]
+
+
+def lengths(v, occupancy, seen):
+    """What is lent, in the words of a contract."""
+    return f"(lengthsFor {' '.join(getattr(v, name) for name in LENGTHS)} {occupancy} {seen})"
+
+
+READ_ASSIGNED = Fn(
+    "building.read_assigned",
+    [("keys", "shr", "u8"), ("values", "shr", "u8"), ("modulus", "num", "u32")] + [(name, "num", "usize") for name in LENGTHS + ["seen"]]
+    + [("keyRoom", "mut", "u64"), ("valueRoom", "mut", "u32")],
+    ensures=lambda v, r, z: f"ReadAssigned (assignedNo (keyCount {v.keys}) (valueCount {v.values}) {v.modulus} (length {v.keyRoom}) (length {v.valueRoom}) {lengths(v, 0, v.seen)}) "
+    f"{v.keys} {v.values} {v.keyRoom} {v.valueRoom} {r} {z.keyRoom} {z.valueRoom}",
+    result=READ, crate="bdz_oracle",
+)
+
+READ_COMPACT = Fn(
+    "building.read_compact",
+    [("keys", "shr", "u8")] + [(name, "num", "usize") for name in LENGTHS + ["occupancy"]] + [("keyRoom", "mut", "u64")],
+    ensures=lambda v, r, z: f"ReadCompact (compactNo (keyCount {v.keys}) (length {v.keyRoom}) {lengths(v, v.occupancy, 0)}) {v.keys} {v.keyRoom} {r} {z.keyRoom}",
+    result=READ, crate="bdz_oracle",
+)
+
 TELL_BUILT = Fn(
-    "building.tell_built", [("built", "val", BUILT), ("answer", "mut", "u64")], ensures=lambda v, r, z: f"{z.answer} ≡ toldBuilt {v.built} {v.answer}", crate="bdz_oracle",
+    "building.tell_built", [("no", "num", "u32"), ("built", "val", BUILT), ("answer", "array", ("u64", 6))],
+    ensures=lambda v, r, z: f"{z.answer} ≡ toldBuilt (settled {v.no} {v.built})", crate="bdz_oracle",
 )
 
 
-def exported(of, built, place, promise, lists):
-    """The export of the build `of`, whose promise is `built`; it tells the answer. `lists` are the `mut` slices of `of`."""
-    keep = [q[0] for q in of.params]
-    fn = Fn(place, of.params + [("answer", "mut", "u64")], crate="bdz_oracle",
-            ensures=lambda v, r, z: " ".join([promise] + [getattr(v, name) for name in keep + ["answer"]] + [getattr(z, name) for name in lists + ["answer"]]))
-    p = Proof(fn, [of, TELL_BUILT], "The build, and its answer told.", "walks.py", [PAIR, BUILT],
-              f"Rattle.bdz_table.specs.Build.{{{built}}}\nRattle·bdz_oracle·specs.specs.Building.{{toldBuilt, {promise}}}")
+def exported(of, read, kind, lists):
+    """The export of the build `of`, whose keys and values `read` reads into rooms first; it tells the answer. `lists` are the `mut` slices of `of`."""
+    rooms = [q for q in read.params if q[1] == "mut"]
+    given = [q for q in read.params if q[0] in ("keys", "values", "modulus")]
+    told = f"Told{kind.capitalize()}"
+    lent, room_names = [q for q in of.params if q[1] == "mut"], [q[0] for q in rooms]
+    ins = [q[0] for q in given + rooms + lent]
+    fn = Fn(f"building.bdz_build_{kind}", given + rooms + lent + [("answer", "array", ("u64", 6))], crate="bdz_oracle",
+            ensures=lambda v, r, z: " ".join([told] + [getattr(v, name) for name in ins] + [getattr(z, name) for name in room_names + lists + ["answer"]]))
+    parts = {"keys": f"{kind}-key-part", "values": f"{kind}-value-part"}
+    p = Proof(fn, [read, of, TELL_BUILT], "The early checks and the reading, the build of what was read, and its answer told.", "walks.py", [PAIR, BUILT, READ],
+              f"Rattle.bdz_table.specs.Build.{{Built{kind.capitalize()}}}\nRattle·bdz_oracle·specs.specs.Keys.{{keyCount}}\n"
+              f"Rattle.bdz_oracle.specs.Building.{{valueCount, lengthsFor, {kind}No, Read{kind.capitalize()}, settled, toldBuilt, {told}}}\n"
+              f"Rattle.bdz_oracle.proofs.Exporting.{{{', '.join(list(parts.values()) + [f'{kind}-told'])}}}")
     first = len(fn.params) + 1
+    counts = [name for name, what, _ in read.params if what == "num" and name != "modulus"]
+    lens = first + 2
+    room_at = lens + len(counts)
+    part_at = room_at + 2 * len(rooms)
+    lent_at = part_at + 2 * len(rooms)
+    tell_at = lent_at + 2 * len(lists)
+
+    def reading(w):
+        for k, name in enumerate(counts):
+            w.let(f"_{lens + k}", "usize", p.length(name))
+        args = []
+        for name, what, _ in read.params:
+            if what == "shr":
+                args.append(p[name])
+            elif what == "mut":
+                args.append(Lent(p[name], f"_{room_at + 2 * room_names.index(name)}"))
+            else:
+                args.append(p.number(name) if name == "modulus" else p.length(name, f"_{lens + counts.index(name)}"))
+        w.call(read, args, f"_{first}", "r")
 
     def build(w):
-        place, args = first + 1, []
-        for name, kind, _ in of.params:
-            args.append(p.number(name) if kind == "num" else Lent(p[name], f"_{place}") if kind == "mut" else p[name])
-            place += 2 if kind == "mut" else 0
-        w.call(of, args, f"_{first}", "b")
+        count, args, at = READ.field("r", f"_{first}", 1, "count"), [], lent_at
+        known = SimpleNamespace(**{name: f"(length {name})" for name in counts})
+        lent_lengths = lengths(known, getattr(known, "occupancy", 0), getattr(known, "seen", 0))
+        for name, what, _ in of.params:
+            if what == "shr":
+                k = ["keys", "values"].index(name)
+                args.append(Part(p[room_names[k]], f"_{part_at + 2 * k}", count, f"({parts[name]} {' '.join(q[0] for q in given + rooms)} {lent_lengths} e-r)"))
+            elif what == "mut":
+                args.append(Lent(p[name], f"_{at}"))
+                at += 2
+            else:
+                args.append(p.number(name))
+        w.call(of, args, f"_{first + 1}", "b")
 
     def tell(w):
-        w.call(TELL_BUILT, [BUILT.whole("b", f"_{first}"), Lent(p["answer"], f"_{first + 2 + 2 * len(lists)}")], f"_{first + 1 + 2 * len(lists)}", "t")
+        w.call(TELL_BUILT, [READ.field("r", f"_{first}", 0, "no"), BUILT.whole("b", f"_{first + 1}"), Lent(p["answer"], f"_{tell_at + 1}")], f"_{tell_at}", "t")
         w.unit("_0")
-        return "(record { built = r-b; is-built = e-b; answer-is = e-t })"
+        return f"({kind}-told {' '.join(ins)} e-r e-b e-t)"
 
-    p.legs([BUILT] + p.lent(*lists) + ["unit"] + p.lent("answer"), [build, tell])
+    p.legs([READ, BUILT] + ["usize"] * len(counts) + p.lent(*room_names) + p.shared(*room_names) + p.lent(*lists) + ["unit"] + p.lent("answer"), [reading, build, tell])
     return p
 
 
 def bdz_build_assigned():
-    return exported(BUILD_ASSIGNED, "BuiltAssigned", "building.bdz_build_assigned", "ToldAssigned", ["table", "degrees", "xors", "queue", "order", "marks", "seen"])
+    return exported(BUILD_ASSIGNED, READ_ASSIGNED, "assigned", ["table", "degrees", "xors", "queue", "order", "marks", "seen"])
 
 
 def bdz_build_compact():
-    return exported(BUILD_COMPACT, "BuiltCompact", "building.bdz_build_compact", "ToldCompact", ["table", "occupancy", "degrees", "xors", "queue", "order", "marks"])
+    return exported(BUILD_COMPACT, READ_COMPACT, "compact", ["table", "occupancy", "degrees", "xors", "queue", "order", "marks"])
 
 
 WALKS = [note_order, assign_g, assign_compact, build_assigned, build_compact, build_assigned_small, build_compact_small, bdz_build_assigned, bdz_build_compact]

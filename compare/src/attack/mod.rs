@@ -5,6 +5,7 @@ pub mod feeding;
 pub mod lists;
 pub mod openings;
 pub mod prefixes;
+pub mod refusals;
 
 use crate::rng::Rng;
 use crate::tally::{Difference, Need, Tally};
@@ -19,10 +20,11 @@ pub struct Target {
     run: fn(&mut Tally, &mut Rng, u64) -> Result<(), Difference>,
 }
 
-pub const ALL: [Target; 4] = [
+pub const ALL: [Target; 5] = [
     openings::TARGET,
     feeding::TARGET,
     lists::TARGET,
+    refusals::TARGET,
     prefixes::TARGET,
 ];
 

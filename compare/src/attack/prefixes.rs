@@ -3,7 +3,8 @@
 
 use super::openings::Calls;
 use super::{meets, met, Target};
-use crate::lent::{more, After, Left, Lent, Loan, Sizes};
+use crate::lent::{more, After, Left, Lent, Loan};
+use crate::model::build::needs;
 use crate::model::{hash, image};
 use crate::ours::{self, Index, DONE, G_LENGTH, SHORT_PREAD};
 use crate::rng::Rng;
@@ -57,24 +58,6 @@ struct Built {
     occupancy: Vec<u8>,
 }
 
-/// "Needs for n of 2 or more".
-fn needs(compact: bool, n: usize, m: usize, modulus: u32) -> Sizes {
-    let (occupancy, seen) = match compact {
-        true => (m.div_ceil(8), 0),
-        false => (0, modulus.div_ceil(8) as usize),
-    };
-    Sizes {
-        table: m,
-        occupancy,
-        degrees: m,
-        xors: m,
-        queue: m,
-        order: n,
-        marks: m,
-        seen,
-    }
-}
-
 /// A modulus from n to twice that, or n for the compact kind; and n different values below it.
 fn values(rng: &mut Rng, compact: bool, n: usize) -> (u32, Vec<u32>) {
     if compact {
@@ -112,8 +95,8 @@ fn build(tally: &mut Tally, rng: &mut Rng, compact: bool, n: usize) -> Result<Bu
     let keys = rng.keys(n);
     let (modulus, values) = values(rng, compact, n);
     let m = hash::vertex_count(compact, n as u32);
-    let needs = needs(compact, n, m as usize, modulus);
-    let mut loan = Loan::new(rng, n, values.len(), needs);
+    let needs = needs(compact, n, values.len(), modulus);
+    let mut loan = Loan::new(rng, needs);
     let (what, number) = call_build(compact, &keys, &values, modulus, &mut loan);
     let width = match compact {
         true => image::COMPACT_WIDTH,
@@ -127,7 +110,8 @@ fn build(tally: &mut Tally, rng: &mut Rng, compact: bool, n: usize) -> Result<Bu
         occupancy: loan.occupancy.given().to_vec(),
     };
     let agreed = [n as u64, m, answer[2], u64::from(modulus), u64::from(width)];
-    let fault = loan.fault(&needs, After::Built(&built.table, &built.occupancy));
+    let after = After::Built(&built.table, &built.occupancy);
+    let fault = loan.fault(&needs, &keys, &values, after);
     tally.same(what, (number, answer, fault), (DONE, agreed, None), || {
         format!(
             "{}, {}, modulus {modulus}; the answers are the number, the index (n, m, seed, modulus, \

@@ -35,7 +35,7 @@ impl<'a> OurBuild<'a> {
             keys: asked.key_bytes(),
             values: asked.value_bytes(),
             needs,
-            loan: asked.loan(rng, needs),
+            loan: Loan::new(rng, needs),
             supers: vec![0; supers],
         }
     }
@@ -82,7 +82,7 @@ impl<'a> OurBuild<'a> {
             "{what}: answers differ"
         );
         assert_eq!(
-            self.loan.fault(&self.needs, expected.after()),
+            self.asked.fault(&self.loan, expected.after()),
             None,
             "{what}"
         );

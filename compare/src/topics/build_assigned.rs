@@ -1,10 +1,11 @@
 //! Building an assigned index.
 
 use super::builds::{
-    check, check_short, check_status, check_with, hard_builds, keys_with_equal_ones, notice_seed,
-    set_of_keys, Build, Outcome, Room, SETS, SMALL,
+    check, check_rooms, check_short, check_status, check_with, hard_builds, keys_with_equal_ones,
+    notice_seed, set_of_keys, Build, Outcome, Room, SETS, SMALL,
 };
 use super::Topic;
+use crate::lent::Loan;
 use crate::ours::{
     ASSIGNED_DUPLICATE, ASSIGNED_LEN, ASSIGNED_MODULUS, ASSIGNED_VALUE, DONE, MOST, NOT_PEELED,
     NO_ROOM, TOO_LARGE,
@@ -28,6 +29,7 @@ pub const TOPIC: Topic = Topic {
         ("value too large", 1_500),
         ("value came before", 600),
         ("both faults of values", 400),
+        ("room too short", 5_000),
         ("buffer too short", 1_500),
         ("equal keys", 200),
         ("255 keys on a vertex", 16),
@@ -130,6 +132,7 @@ fn counts_differ(tally: &mut Tally, rng: &mut Rng) -> Result<(), Difference> {
                 for modulus in [0, MOST + 1, rng.edge_u32()] {
                     let build = Build::Assigned(&keys, &any, modulus);
                     check_status(tally, rng, what, build, Room::Few, ASSIGNED_LEN)?;
+                    check_rooms(tally, rng, "room too short", build)?;
                 }
             }
         }
@@ -143,13 +146,15 @@ fn bad_modulus(tally: &mut Tally, rng: &mut Rng, n: usize) -> Result<(), Differe
     let good: Vec<u32> = (0..n as u32).collect();
     let any: Vec<u32> = (0..n).map(|_| rng.edge_u32()).collect();
     for values in [good, any] {
+        let build = Build::Assigned(&keys, &values, 0);
+        check_rooms(tally, rng, "room too short", build)?;
         for room in [Room::Empty, Room::Few, Room::Longer] {
-            let build = Build::Assigned(&keys, &values, 0);
             check_status(tally, rng, "modulus 0", build, room, ASSIGNED_MODULUS)?;
         }
         let past = 1 + rng.below(u64::from(u32::MAX - MOST)) as u32;
         for modulus in [MOST + 1, MOST + past, u32::MAX] {
             let build = Build::Assigned(&keys, &values, modulus);
+            check_rooms(tally, rng, "room too short", build)?;
             for room in [Room::Empty, Room::Few] {
                 check_status(tally, rng, "modulus too large", build, room, TOO_LARGE)?;
             }
@@ -282,7 +287,7 @@ fn largest_modulus(tally: &mut Tally, rng: &mut Rng) -> Result<(), Difference> {
     for room in [Room::Empty, Room::Few] {
         check_status(tally, rng, what, largest, room, NO_ROOM)?;
     }
-    let mut loan = largest.loan(rng, largest.needs());
+    let mut loan = Loan::new(rng, largest.needs());
     for (keys, values, modulus, meant) in [
         (&keys[..], &some[..], MOST, DONE),
         (&keys[..2], &[last, 0], MOST, DONE),

@@ -4,7 +4,7 @@ use crate::bdz::{self, BdzMphf, GStore, PeelScratch, MAX_SEED};
 use crate::collisions::{self, Crowd};
 use crate::error::StoreError;
 use crate::expressions::{assigned_vertices, seeds};
-use crate::lent::{After, Fenced, Loan, Sizes};
+use crate::lent::{more, After, Fenced, Loan, Sizes};
 use crate::ours::{
     self, ASSIGNED_DUPLICATE, ASSIGNED_LEN, ASSIGNED_MODULUS, ASSIGNED_VALUE, DONE, MOST,
     NOT_PEELED, NO_ROOM, TOO_LARGE,
@@ -26,13 +26,13 @@ pub enum Build<'a> {
 }
 
 impl Build<'_> {
-    fn keys(&self) -> &[u64] {
+    pub fn keys(&self) -> &[u64] {
         match self {
             Build::Assigned(keys, _, _) | Build::Compact(keys) => keys,
         }
     }
 
-    fn values(&self) -> &[u32] {
+    pub fn values(&self) -> &[u32] {
         match self {
             Build::Assigned(_, values, _) => values,
             Build::Compact(_) => &[],
@@ -42,15 +42,17 @@ impl Build<'_> {
     /// What each buffer needs.
     pub fn needs(&self) -> Sizes {
         let n = self.keys().len();
+        let rooms = Sizes {
+            key_room: n,
+            value_room: self.values().len(),
+            ..Sizes::default()
+        };
         let m = match n {
-            0 => return Sizes::default(),
+            0 => return rooms,
             1 => 1,
             _ => vertices(matches!(self, Build::Compact(_)), n) as usize,
         };
-        let mut needs = Sizes {
-            table: m,
-            ..Sizes::default()
-        };
+        let mut needs = Sizes { table: m, ..rooms };
         match self {
             Build::Assigned(_, _, modulus) => needs.seen = modulus.div_ceil(8) as usize,
             Build::Compact(_) => needs.occupancy = m.div_ceil(8),
@@ -65,6 +67,10 @@ impl Build<'_> {
 
     /// What the build must come to with buffers of these lengths.
     fn expected(&self, lengths: &Sizes) -> Outcome {
+        // Keys and values come as bytes and need rooms of their own, which are tested before all else.
+        if lengths.lack_rooms(&self.needs()) {
+            return Outcome::refused(NO_ROOM);
+        }
         if !self.is_over_early() {
             // These two were added, so the Rust does not know them.
             if matches!(self, Build::Assigned(_, _, modulus) if *modulus > MOST) {
@@ -102,9 +108,9 @@ impl Build<'_> {
         self.values().iter().flat_map(|v| v.to_le_bytes()).collect()
     }
 
-    /// Dirty buffers of these lengths, with a room for every key and value.
-    pub fn loan(&self, rng: &mut Rng, lengths: Sizes) -> Loan {
-        Loan::new(rng, self.keys().len(), self.values().len(), lengths)
+    /// The first place of a loan that the build left otherwise than it must.
+    pub fn fault(&self, loan: &Loan, after: After) -> Option<String> {
+        loan.fault(&self.needs(), self.keys(), self.values(), after)
     }
 
     /// Whether the Rust has its answer before the added refusals have their turn.
@@ -233,9 +239,12 @@ pub enum Room {
     OneShort(usize),
     /// The same, but too short by any number of elements.
     Shorter(usize),
-    /// Up to 7 elements, whatever they need.
+    /// Up to 7 elements, whatever they need; the rooms for keys and values are long enough.
     Few,
+    /// None, but for these rooms.
     Empty,
+    /// As few, with that number's room too short by any number of elements.
+    FewAndShort(usize),
 }
 
 impl Room {
@@ -257,7 +266,11 @@ impl Room {
             match self {
                 Self::OneShort(short) if short == number => *length -= 1,
                 Self::Shorter(short) if short == number => *length = rng.below_usize(*length),
-                Self::Few => *length = rng.below_usize(8),
+                Self::FewAndShort(short) if short == number => *length = rng.below_usize(*length),
+                Self::Few | Self::Empty | Self::FewAndShort(_) if number < Sizes::ROOMS => {
+                    *length += more(rng);
+                }
+                Self::Few | Self::FewAndShort(_) => *length = rng.below_usize(8),
                 Self::Empty => *length = 0,
                 _ if longer => *length += rng.below_usize(9),
                 _ => (),
@@ -276,7 +289,7 @@ pub fn check(
     room: Room,
 ) -> Result<Outcome, Difference> {
     let lengths = room.lengths(rng, &build.needs());
-    let mut loan = build.loan(rng, lengths);
+    let mut loan = Loan::new(rng, lengths);
     check_with(tally, rng, what, build, &mut loan)
 }
 
@@ -292,7 +305,7 @@ pub fn check_with(
     let keys = Fenced::new(rng, &build.key_bytes());
     let values = Fenced::new(rng, &build.value_bytes());
     let status = build.ours(keys.given(), values.given(), loan);
-    let fault = loan.fault(&build.needs(), expected.after());
+    let fault = build.fault(loan, expected.after());
     let ours = (status, loan.answer(), fault);
     let agreed = (expected.refusal, expected.answer(), None);
     tally.same(what, ours, agreed, || build.describe(&loan.lengths))?;
@@ -310,6 +323,22 @@ pub fn check_status(
 ) -> Result<(), Difference> {
     let outcome = check(tally, rng, what, build, room)?;
     assert_eq!(outcome.refusal, meant, "{what}: the input is another case");
+    Ok(())
+}
+
+/// A room for keys or values that is too short comes before all else that is wrong.
+pub fn check_rooms(
+    tally: &mut Tally,
+    rng: &mut Rng,
+    what: &'static str,
+    build: Build,
+) -> Result<(), Difference> {
+    let rooms = build.needs().all().into_iter().take(Sizes::ROOMS);
+    for (number, _) in rooms.enumerate().filter(|&(_, need)| need > 0) {
+        for _ in 0..2 {
+            check_status(tally, rng, what, build, Room::FewAndShort(number), NO_ROOM)?;
+        }
+    }
     Ok(())
 }
 

@@ -330,13 +330,13 @@ fn check(
         answers.given_mut(),
     );
     let expected = record.expected(keys, room);
-    let read = match room.keys < keys.len() {
-        true => Left::Untouched,
-        false => Left::New(keys),
+    let (read, inputs) = match &expected {
+        Ok(_) => (Left::New(keys), keys.len().max(1)),
+        Err(_) => (Left::Untouched, 1),
     };
-    let (agreed, left, inputs) = match &expected {
-        Ok(found) => (DONE, Left::New(&found[..]), keys.len().max(1)),
-        Err(refusal) => (*refusal, Left::Untouched, 1),
+    let (agreed, left) = match &expected {
+        Ok(found) => (DONE, Left::New(&found[..])),
+        Err(refusal) => (*refusal, Left::Untouched),
     };
     let fault = key_room
         .fault("key_room", read)

@@ -6,6 +6,7 @@ use Rattle.bdz_image.proofs.audit.audit.Reads as audit
 use Rattle.bdz_image.proofs.feed.feed_ask.Reads as feed-ask
 use Rattle.bdz_image.proofs.feed.feed_page.Reads as feed-page
 use Rattle.bdz_image.proofs.feed.feed_start.Reads as feed-start
+use Rattle.bdz_image.proofs.feed.start_no.Reads as start-no
 use Rattle.bdz_image.proofs.open.open_compact.Reads as open-compact
 use Rattle.bdz_image.proofs.open.open_packed.Reads as open-packed
 use Rattle.bdz_image.proofs.page.g_page_need.Reads as g-page-need
@@ -43,6 +44,9 @@ one-open-compact κs a x y s t p q = p ∙ sym q
 
 pub one-audit : (κs : _) (a : _) → OneResult (audit.Post κs a)
 one-audit κs a x y s t p q = p ∙ sym q
+
+pub one-start-no : (κs : _) (a : _) → OneResult (start-no.Post κs a)
+one-start-no κs a x y s t p q = p ∙ sym q
 
 pub one-feed-start : (κs : _) (a : _) → OneOutcome (λ s. (s .1 .1 .1 .0 .now ∷ s .1 .1 .1 .1 .0 .now ∷ s .1 .1 .1 .1 .1 .0 .now ∷ [])) (feed-start.Post κs a)
 one-feed-start κs a x y s t p q = (p .feed-is ∙ sym (q .feed-is), rw (p .order-is, p .slots-are, p .pages-are, q .order-is, q .slots-are, q .pages-are))

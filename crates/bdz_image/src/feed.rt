@@ -1,7 +1,7 @@
 // The page feed's public calls.
 ghost use mathlib.Core.Path.{_≡_};
 ghost use lib.ListN.{length};
-ghost use Rattle.bdz_image.specs.Feeding.{feedM, listsNone, listsPages, occupancyNo, feedNo, startRoom, pageEarly, Opened, PageFed, superNo, askRoom, finishWords, askedOf};
+ghost use Rattle.bdz_image.specs.Feeding.{feedM, listsNone, listsPages, occupancyNo, feedNo, startRoom, startNo, pageEarly, Opened, PageFed, superNo, askRoom, finishWords, askedOf};
 use super::ask::Words;
 use super::ask::ask;
 use super::page::feed;
@@ -131,6 +131,25 @@ fn start_room(keys: usize, order: usize, slots: usize, pages: usize) -> u32
     ACCEPTED
 }
 
+// The refusal of a start by the lengths of what is lent, or 0.
+pub fn start_no(
+    index: Index,
+    keys: usize,
+    occ: usize,
+    order: usize,
+    slots: usize,
+    pages: usize,
+) -> u32
+    ensures { λ r. ⌜ r ≡ startNo index keys occ order slots pages ⌝ }
+{
+    feed_no(
+        index,
+        keys as u64,
+        occ,
+        start_room(keys, order, slots, pages),
+    )
+}
+
 // A feed for keys: the order of their slots, the slots, and the pages that they wait for, rising, each once. 10, 11, 12, 13, 14.
 pub fn feed_start(
     index: Index,
@@ -144,11 +163,13 @@ pub fn feed_start(
 {
     let count = keys.len();
     let kind = index.kind;
-    let no = feed_no(
+    let no = start_no(
         index,
-        count as u64,
+        count,
         occ.len(),
-        start_room(count, order.len(), slots.len(), pages.len()),
+        order.len(),
+        slots.len(),
+        pages.len(),
     );
     if no != ACCEPTED {
         return Feed {

@@ -45,8 +45,6 @@ use Rattle.bdz_oracle.proofs.packing.bdz_unpack_g.Reads as bdz-unpack-g
 use Rattle.bdz_oracle.specs.Building.{ToldAssigned, ToldCompact}
 use Rattle.bdz_oracle.proofs.building.bdz_build_assigned as bdz-build-assigned
 use Rattle.bdz_oracle.proofs.building.bdz_build_compact as bdz-build-compact
-use Rattle.bdz_oracle.proofs.building.bdz_read_keys.Reads as bdz-read-keys
-use Rattle.bdz_oracle.proofs.building.bdz_read_values.Reads as bdz-read-values
 
 pub one-bdz-splitmix64 : (κs : _) (a : _) → OneResult (bdz-splitmix64.Post κs a)
 one-bdz-splitmix64 κs a x y s t p q = p ∙ sym q
@@ -106,7 +104,7 @@ pub one-bdz-rank1-no : (κs : _) (a : _) → OneResult (bdz-rank1-no.Post κs a)
 one-bdz-rank1-no κs a x y s t p q = p ∙ sym q
 
 pub one-bdz-index-batch : (κs : _) (a : _) → OneOutcome (λ s. (s .1 .1 .1 .1 .1 .1 .1 .1 .1 .0 .now ∷ s .1 .1 .1 .1 .1 .1 .1 .1 .1 .1 .0 .now ∷ [])) (bdz-index-batch.Post κs a)
-one-bdz-index-batch κs a x y s t p q = (p .number-is ∙ sym (q .number-is), rw (p .key-room-is, p .out-is, q .key-room-is, q .out-is))
+one-bdz-index-batch κs a x y s t p q = (p .number-is ∙ sym (q .number-is), rw (p .key-room-is, p .out-is, q .key-room-is, q .out-is, p .number-is, q .number-is))
 
 pub one-bdz-index-words : (κs : _) (a : _) → OneOutcome (λ s. s .1 .1 .1 .1 .1 .1 .1 .1 .1 .0 .now) (bdz-index-words.Post κs a)
 one-bdz-index-words κs a x y s t p q = (p .number-is ∙ sym (q .number-is), p .after-is ∙ sym (q .after-is))
@@ -134,7 +132,7 @@ one-bdz-g-page-need κs a x y s t p q = p ∙ sym q
 
 pub one-bdz-feed-start : (κs : _) (a : _) → OneOutcome (λ s. (s .1 .1 .1 .1 .1 .1 .1 .1 .0 .now ∷ s .1 .1 .1 .1 .1 .1 .1 .1 .1 .0 .now ∷ s .1 .1 .1 .1 .1 .1 .1 .1 .1 .1 .0 .now ∷ s .1 .1 .1 .1 .1 .1 .1 .1 .1 .1 .1 .0 .now ∷ s .1 .1 .1 .1 .1 .1 .1 .1 .1 .1 .1 .1 .0 .now ∷ [])) (bdz-feed-start.Post κs a)
 one-bdz-feed-start κs a x y s t p q =
-    (p .number-is ∙ sym (q .number-is), rw (p .key-room-is, p .order-is, p .slots-are, p .pages-are, p .told-is, q .key-room-is, q .order-is, q .slots-are, q .pages-are, q .told-is))
+    (p .number-is ∙ sym (q .number-is), rw (p .key-room-is, p .order-is, p .slots-are, p .pages-are, p .told-is, q .key-room-is, q .order-is, q .slots-are, q .pages-are, q .told-is, p .number-is, q .number-is))
 
 pub one-bdz-feed-page : (κs : _) (a : _) → OneOutcome (λ s. s .1 .1 .1 .1 .1 .1 .1 .1 .1 .1 .0 .now) (bdz-feed-page.Post κs a)
 one-bdz-feed-page κs a x y s t p q = (p .number-is ∙ sym (q .number-is), p .slots-are ∙ sym (q .slots-are))
@@ -146,16 +144,10 @@ pub one-bdz-read-list : (κs : _) (a : _) → OneOutcome (λ s. (s .1 .0 .now �
 one-bdz-read-list κs a x y s t p q =
     (p .number-is ∙ sym (q .number-is), rw (p .keys-are, p .values-are, p .told-is, q .keys-are, q .values-are, q .told-is))
 
-pub one-bdz-read-keys : (κs : _) (a : _) → OneOutcome (λ s. s .1 .0 .now) (bdz-read-keys.Post κs a)
-one-bdz-read-keys κs a x y s t p q = (p .number-is ∙ sym (q .number-is), p .answer-is ∙ sym (q .answer-is))
-
-pub one-bdz-read-values : (κs : _) (a : _) → OneOutcome (λ s. s .1 .0 .now) (bdz-read-values.Post κs a)
-one-bdz-read-values κs a x y s t p q = (p .number-is ∙ sym (q .number-is), p .answer-is ∙ sym (q .answer-is))
-
 -- the builds take a slice of structs, so that their promises are read from the clause itself; OneTold has what follows from them
 module _ {M : Type 1} (𝓤 : URA M) (H : Heap 𝓤) (A : Atoms 𝓤) (mem : Memory → SProp 𝓤) (run : Routine → Fun 𝓤) where
-  pub bdz-build-assigned-promises : (κs : _) (a : _) (g : _) (r : _) (s : _) → bdz-build-assigned.clauses 𝓤 H A mem run κs a .ensures g r s ≡ fact 𝓤 (ToldAssigned (now (a .0)) (now (a .1 .0)) (a .1 .1 .0) (now (a .1 .1 .1 .0)) (now (a .1 .1 .1 .1 .0)) (now (a .1 .1 .1 .1 .1 .0)) (now (a .1 .1 .1 .1 .1 .1 .0)) (now (a .1 .1 .1 .1 .1 .1 .1 .0)) (now (a .1 .1 .1 .1 .1 .1 .1 .1 .0)) (now (a .1 .1 .1 .1 .1 .1 .1 .1 .1 .0)) (now (a .1 .1 .1 .1 .1 .1 .1 .1 .1 .1 .0)) (now (s .1 .1 .1 .0)) (now (s .1 .1 .1 .1 .0)) (now (s .1 .1 .1 .1 .1 .0)) (now (s .1 .1 .1 .1 .1 .1 .0)) (now (s .1 .1 .1 .1 .1 .1 .1 .0)) (now (s .1 .1 .1 .1 .1 .1 .1 .1 .0)) (now (s .1 .1 .1 .1 .1 .1 .1 .1 .1 .0)) (now (s .1 .1 .1 .1 .1 .1 .1 .1 .1 .1 .0)))
+  pub bdz-build-assigned-promises : (κs : _) (a : _) (g : _) (r : _) (s : _) → bdz-build-assigned.clauses 𝓤 H A mem run κs a .ensures g r s ≡ fact 𝓤 (ToldAssigned (now (a .0)) (now (a .1 .0)) (a .1 .1 .0) (now (a .1 .1 .1 .0)) (now (a .1 .1 .1 .1 .0)) (now (a .1 .1 .1 .1 .1 .0)) (now (a .1 .1 .1 .1 .1 .1 .0)) (now (a .1 .1 .1 .1 .1 .1 .1 .0)) (now (a .1 .1 .1 .1 .1 .1 .1 .1 .0)) (now (a .1 .1 .1 .1 .1 .1 .1 .1 .1 .0)) (now (a .1 .1 .1 .1 .1 .1 .1 .1 .1 .1 .0)) (now (a .1 .1 .1 .1 .1 .1 .1 .1 .1 .1 .1 .0)) (now (s .1 .1 .1 .0)) (now (s .1 .1 .1 .1 .0)) (now (s .1 .1 .1 .1 .1 .0)) (now (s .1 .1 .1 .1 .1 .1 .0)) (now (s .1 .1 .1 .1 .1 .1 .1 .0)) (now (s .1 .1 .1 .1 .1 .1 .1 .1 .0)) (now (s .1 .1 .1 .1 .1 .1 .1 .1 .1 .0)) (now (s .1 .1 .1 .1 .1 .1 .1 .1 .1 .1 .0)) (now (s .1 .1 .1 .1 .1 .1 .1 .1 .1 .1 .1 .0)) (now (s .1 .1 .1 .1 .1 .1 .1 .1 .1 .1 .1 .1 .0)))
   bdz-build-assigned-promises κs a g r s = refl
 
-  pub bdz-build-compact-promises : (κs : _) (a : _) (g : _) (r : _) (s : _) → bdz-build-compact.clauses 𝓤 H A mem run κs a .ensures g r s ≡ fact 𝓤 (ToldCompact (now (a .0)) (now (a .1 .0)) (now (a .1 .1 .0)) (now (a .1 .1 .1 .0)) (now (a .1 .1 .1 .1 .0)) (now (a .1 .1 .1 .1 .1 .0)) (now (a .1 .1 .1 .1 .1 .1 .0)) (now (a .1 .1 .1 .1 .1 .1 .1 .0)) (now (a .1 .1 .1 .1 .1 .1 .1 .1 .0)) (now (s .1 .0)) (now (s .1 .1 .0)) (now (s .1 .1 .1 .0)) (now (s .1 .1 .1 .1 .0)) (now (s .1 .1 .1 .1 .1 .0)) (now (s .1 .1 .1 .1 .1 .1 .0)) (now (s .1 .1 .1 .1 .1 .1 .1 .0)) (now (s .1 .1 .1 .1 .1 .1 .1 .1 .0)))
+  pub bdz-build-compact-promises : (κs : _) (a : _) (g : _) (r : _) (s : _) → bdz-build-compact.clauses 𝓤 H A mem run κs a .ensures g r s ≡ fact 𝓤 (ToldCompact (now (a .0)) (now (a .1 .0)) (now (a .1 .1 .0)) (now (a .1 .1 .1 .0)) (now (a .1 .1 .1 .1 .0)) (now (a .1 .1 .1 .1 .1 .0)) (now (a .1 .1 .1 .1 .1 .1 .0)) (now (a .1 .1 .1 .1 .1 .1 .1 .0)) (now (a .1 .1 .1 .1 .1 .1 .1 .1 .0)) (now (s .1 .0)) (now (s .1 .1 .0)) (now (s .1 .1 .1 .0)) (now (s .1 .1 .1 .1 .0)) (now (s .1 .1 .1 .1 .1 .0)) (now (s .1 .1 .1 .1 .1 .1 .0)) (now (s .1 .1 .1 .1 .1 .1 .1 .0)) (now (s .1 .1 .1 .1 .1 .1 .1 .1 .0)) (now (s .1 .1 .1 .1 .1 .1 .1 .1 .1 .0)))
   bdz-build-compact-promises κs a g r s = refl

@@ -1,12 +1,12 @@
 -- The page feed with keys that come as bytes, its numbers told in words: what is answered, and what each lent buffer then holds.
 -- Assumes nothing.
 use mathlib.Core.Path.{_≡_}
-use mathlib.Core.Bool.{Bool, cond, _||_}
+use mathlib.Core.Bool.{cond}
 use mathlib.Core.List.{List, [], _∷_}
 use Prim.Native.Nat.{ℕ, _*_}
 use lib.Dec.{ltb}
 use lib.ListN.{length}
-use Rattle.bdz_base.specs.Buffer.{over}
+use Rattle.bdz_base.specs.Buffer.{over, written}
 use Rattle.bdz_base.specs.Refusal.{refuse}
 use Rattle.bdz_table.specs.declared.index.Answer.{Answer}
 use Rattle.bdz_table.specs.declared.index.Index.{Index}
@@ -20,25 +20,26 @@ use Rattle.bdz_oracle.specs.Keys.{kindOf, keyCount}
 abbrev pub recordOf : ℕ → ℕ → ℕ → ℕ → ℕ → ℕ → Index
 recordOf compact n m seed modulus width = record { kind = kindOf compact; n = n; m = m; seed = seed; modulus = modulus; width = width }
 
--- "a lent buffer is shorter than its stated need": a word a key, and two words for the feed's numbers
-abbrev pub lacksStart : List ℕ → List ℕ → List ℕ → Bool
-lacksStart bytes keyRoom told = ltb (length keyRoom) (keyCount bytes) || ltb (length told) 2
+-- 14 "a lent buffer is shorter than its stated need": two words for the feed's numbers, and a word a key; else the start's own number
+unfoldable pub startedNo : Index → List ℕ → ℕ → List ℕ → List ℕ → List ℕ → List ℕ → List ℕ → ℕ
+startedNo index bytes occ keyRoom order slots pages told =
+    refuse 14 (ltb (length told) 2)
+    (refuse 14 (ltb (length keyRoom) (keyCount bytes))
+    (startNo index (keyCount bytes) occ (length order) (length slots) (length pages)))
 
-abbrev pub startedNo : Index → List ℕ → ℕ → List ℕ → List ℕ → List ℕ → ℕ
-startedNo index bytes occ order slots pages = startNo index (length (keysIn bytes)) occ (length order) (length slots) (length pages)
+-- how many keys and pages a feed has
+abbrev pub toldFeed : Feed → List ℕ
+toldFeed feed = feed .keys ∷ feed .pages ∷ []
 
--- the feed of the keys
-abbrev pub startedFeed : Index → List ℕ → ℕ → List ℕ → List ℕ → List ℕ → Feed
-startedFeed index bytes occ order slots pages = feedOf index (keysIn bytes) (startedNo index bytes occ order slots pages)
-
--- the whole promise: 14 and every buffer as it was, or the start of a feed for the keys, with its two numbers
+-- the whole promise: the number; the room for the keys; the feed's buffers, as its start leaves them; and its two numbers, where they
+-- have room: "A refused call answers its number, with every other field zero"
 pub record ToldStart (index : Index) (bytes : List ℕ) (occ : ℕ) (keyRoom order slots pages told : List ℕ) (number : ℕ) (keyRoom′ order′ slots′ pages′ told′ : List ℕ) : Type 0 where
-  pub number-is : number ≡ refuse 14 (lacksStart bytes keyRoom told) (startedFeed index bytes occ order slots pages .no)
-  pub key-room-is : keyRoom′ ≡ cond (lacksStart bytes keyRoom told) keyRoom (over (keysIn bytes) keyRoom)
-  pub order-is : order′ ≡ cond (lacksStart bytes keyRoom told) order (begun index (length (keysIn bytes)) (startedNo index bytes occ order slots pages) (orderOf index (keysIn bytes)) order)
-  pub slots-are : slots′ ≡ cond (lacksStart bytes keyRoom told) slots (begun index (length (keysIn bytes)) (startedNo index bytes occ order slots pages) (freshSlots index (length (keysIn bytes))) slots)
-  pub pages-are : pages′ ≡ cond (lacksStart bytes keyRoom told) pages (begun index (length (keysIn bytes)) (startedNo index bytes occ order slots pages) (padded (6 * length (keysIn bytes)) (pagesOf index (keysIn bytes))) pages)
-  pub told-is : told′ ≡ cond (lacksStart bytes keyRoom told) told (over (startedFeed index bytes occ order slots pages .keys ∷ startedFeed index bytes occ order slots pages .pages ∷ []) told)
+  pub number-is : number ≡ startedNo index bytes occ keyRoom order slots pages told
+  pub key-room-is : keyRoom′ ≡ written number (keysIn bytes) keyRoom
+  pub order-is : order′ ≡ begun index (keyCount bytes) number (orderOf index (keysIn bytes)) order
+  pub slots-are : slots′ ≡ begun index (keyCount bytes) number (freshSlots index (keyCount bytes)) slots
+  pub pages-are : pages′ ≡ begun index (keyCount bytes) number (padded (6 * keyCount bytes) (pagesOf index (keysIn bytes))) pages
+  pub told-is : told′ ≡ cond (ltb (length told) 2) told (over (toldFeed (feedOf index (keysIn bytes) number)) told)
 
 -- an answer, told in one word
 abbrev pub ToldAnswer : Answer → List ℕ → ℕ → List ℕ → Type 0

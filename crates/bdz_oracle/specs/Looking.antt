@@ -1,11 +1,11 @@
 -- Lookups of keys that come as bytes: what is answered, and what each lent buffer then holds. Assumes nothing.
 use mathlib.Core.Path.{_≡_}
-use mathlib.Core.Bool.{Bool, cond}
+use mathlib.Core.Bool.{Bool}
 use mathlib.Core.List.{List}
 use Prim.Native.Nat.{ℕ}
 use lib.Dec.{ltb}
 use lib.ListN.{length}
-use Rattle.bdz_base.specs.Buffer.{over, written}
+use Rattle.bdz_base.specs.Buffer.{written}
 use Rattle.bdz_base.specs.Refusal.{refuse}
 use Rattle.bdz_table.specs.Lookup.{lookupNo, answersOf}
 use Rattle.bdz_table.specs.declared.index.Index.{Index}
@@ -24,10 +24,10 @@ lacksKeys bytes keyRoom = ltb (length keyRoom) (keyCount bytes)
 unfoldable pub lookNo : Index → List ℕ → List ℕ → List ℕ → List ℕ → List ℕ → List ℕ → ℕ
 lookNo index bytes table occ supers keyRoom out =
     refuse 14 (lacksKeys bytes keyRoom)
-    (lookupNo index (length (keysIn bytes)) (length table) (length occ) (length supers) (length out))
+    (lookupNo index (keyCount bytes) (length table) (length occ) (length supers) (length out))
 
--- the whole promise: the number, the room for the keys, and the answers
+-- the whole promise: the number, the room for the keys, and the answers; "Any other refused call changes nothing"
 pub record ToldLookup (index : Index) (bytes table occ supers keyRoom out : List ℕ) (number : ℕ) (keyRoom′ out′ : List ℕ) : Type 0 where
   pub number-is : number ≡ lookNo index bytes table occ supers keyRoom out
-  pub key-room-is : keyRoom′ ≡ cond (lacksKeys bytes keyRoom) keyRoom (over (keysIn bytes) keyRoom)
-  pub out-is : out′ ≡ written (lookNo index bytes table occ supers keyRoom out) (answersOf index table occ supers (keysIn bytes)) out
+  pub key-room-is : keyRoom′ ≡ written number (keysIn bytes) keyRoom
+  pub out-is : out′ ≡ written number (answersOf index table occ supers (keysIn bytes)) out

@@ -6,10 +6,13 @@ ghost use Rattle.bdz_image.specs.Page.{pageLength};
 ghost use Rattle.bdz_oracle.specs.Feeding.{recordOf, ToldStart, ToldAnswer};
 use super::reading::kind_of;
 use super::reading::read_keys;
+use super::reading::room_no;
+use bdz_base::refusal::ACCEPTED;
 use bdz_base::refusal::NO_ROOM;
 use bdz_image::feed::feed_ask;
 use bdz_image::feed::feed_page;
 use bdz_image::feed::feed_start;
+use bdz_image::feed::start_no;
 use bdz_image::page::g_page_need;
 use bdz_table::index::Index;
 
@@ -33,7 +36,7 @@ pub extern "C" fn bdz_g_page_need(n_bytes: u64, page: u32) -> u64
     g_page_need(n_bytes, page)
 }
 
-// A feed for keys that come as bytes, in an index of the assigned kind for 0 and of the compact kind for any other number; told are how many keys and pages it has. 14 where the keys or what is told have no room, and then nothing is touched.
+// A feed for keys that come as bytes, in an index of the assigned kind for 0 and of the compact kind for any other number; told are how many keys and pages it has, zeros of a refusal. 14 where they have no room, then where the keys have none, then the start's own numbers; all are judged before the keys are read, so a refusal touches nothing else.
 #[no_mangle]
 pub extern "C" fn bdz_feed_start(
     keys: &[u8],
@@ -52,15 +55,26 @@ pub extern "C" fn bdz_feed_start(
 ) -> u32
     ensures { λ r. ⌜ ToldStart (recordOf compact n m seed modulus width) (now (keys .entry)) (length (now (occ .entry))) (now («key_room» .entry)) (now (order .entry)) (now (slots .entry)) (now (pages .entry)) (now (told .entry)) r (now («key_room» .exit)) (now (order .exit)) (now (slots .exit)) (now (pages .exit)) (now (told .exit)) ⌝ }
 {
-    let count = keys.len() / 8;
-    if key_room.len() < count {
-        return NO_ROOM;
-    }
     if told.len() < 2 {
         return NO_ROOM;
     }
-    read_keys(keys, count, key_room);
+    let count = keys.len() / 8;
     let index = record_of(compact, n, m, seed, modulus, width);
+    let judged = start_no(
+        index,
+        count,
+        occ.len(),
+        order.len(),
+        slots.len(),
+        pages.len(),
+    );
+    let no = room_no(key_room.len(), count, judged);
+    if no != ACCEPTED {
+        told[0] = 0;
+        told[1] = 0;
+        return no;
+    }
+    read_keys(keys, count, key_room);
     let feed = feed_start(index, &key_room[..count], occ, order, slots, pages);
     told[0] = feed.keys;
     told[1] = feed.pages;

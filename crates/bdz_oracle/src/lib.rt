@@ -1,4 +1,5 @@
-// What the Rust harness links: plain functions on numbers and slices, with keys as little-endian bytes.
+// What the Rust harness links: plain functions on numbers and slices. Keys come as little-endian bytes, and values too; they are read
+// into rooms that are lent, once nothing is left to refuse that can be judged without them.
 pub mod building;
 pub mod feeding;
 pub mod hashing;

@@ -6,9 +6,11 @@ ghost use Rattle.bdz_table.specs.Rank.{onesBetween, SuperCounted, rankedOf};
 ghost use Rattle.bdz_oracle.specs.Looking.{indexOf, ToldLookup};
 use super::reading::kind_of;
 use super::reading::read_keys;
-use bdz_base::refusal::NO_ROOM;
+use super::reading::room_no;
+use bdz_base::refusal::ACCEPTED;
 use bdz_table::index::Index;
 use bdz_table::lookup::index_batch;
+use bdz_table::lookup::lookup_no;
 use bdz_table::view::rank1;
 
 #[no_mangle]
@@ -41,7 +43,7 @@ pub extern "C" fn bdz_rank1_no(occ: &[u8], supers: &[u32], m: u32, v: u32) -> u3
     rank1(occ, supers, m, v).no
 }
 
-// The answer for each key, in an index of the assigned kind for 0 and of the compact kind for any other number. 14 where the keys have no room, and then nothing is touched.
+// The answer for each key, in an index of the assigned kind for 0 and of the compact kind for any other number. 14 where the keys have no room, then the lookup's own numbers; all are judged before the keys are read, so a refusal touches nothing.
 #[no_mangle]
 pub extern "C" fn bdz_index_batch(
     keys: &[u8],
@@ -59,10 +61,6 @@ pub extern "C" fn bdz_index_batch(
     ensures { λ r. ⌜ ToldLookup (indexOf compact n m seed modulus) (now (keys .entry)) (now (table .entry)) (now (occ .entry)) (now (supers .entry)) (now («key_room» .entry)) (now (out .entry)) r (now («key_room» .exit)) (now (out .exit)) ⌝ }
 {
     let count = keys.len() / 8;
-    if key_room.len() < count {
-        return NO_ROOM;
-    }
-    read_keys(keys, count, key_room);
     let index = Index {
         kind: kind_of(compact),
         n,
@@ -71,6 +69,19 @@ pub extern "C" fn bdz_index_batch(
         modulus,
         width: 0,
     };
+    let judged = lookup_no(
+        index,
+        count,
+        table.len(),
+        occ.len(),
+        supers.len(),
+        out.len(),
+    );
+    let no = room_no(key_room.len(), count, judged);
+    if no != ACCEPTED {
+        return no;
+    }
+    read_keys(keys, count, key_room);
     index_batch(index, &key_room[..count], table, occ, supers, out)
 }
 

@@ -1,11 +1,14 @@
 // What comes from the harness: kinds as numbers, keys and values as bytes that are read into words.
 ghost use mathlib.Core.Path.{_≡_};
 ghost use Prim.Native.Nat.{_/_, _≤_};
+ghost use lib.Dec.{ltb};
 ghost use lib.ListN.{length};
 ghost use Rattle.bdz_base.specs.Buffer.{tab, over};
+ghost use Rattle.bdz_base.specs.Refusal.{refuse};
 ghost use Rattle.bdz_oracle.specs.Keys.{kindOf, keyAt};
 ghost use Rattle.bdz_oracle.specs.Building.{valueAt};
 use bdz_base::pack::extract_g_window;
+use bdz_base::refusal::NO_ROOM;
 use bdz_base::verts::Kind;
 use bdz_base::words::le64;
 
@@ -17,6 +20,16 @@ pub(crate) fn kind_of(compact: u32) -> Kind
         return Kind::Assigned;
     }
     Kind::Compact
+}
+
+// 14 where so many words have no room, else the number of what is judged next.
+pub(crate) fn room_no(room: usize, words: usize, next: u32) -> u32
+    ensures { λ r. ⌜ r ≡ refuse 14 (ltb room words) next ⌝ }
+{
+    if room < words {
+        return NO_ROOM;
+    }
+    next
 }
 
 // One word a key.

@@ -28,6 +28,9 @@ use Rattle.bdz_table.proofs.index.refused.Reads as refused
 use Rattle.bdz_table.proofs.index.width_for.Reads as width-for
 use Rattle.bdz_table.proofs.lookup.finish_index.Reads as finish-index
 use Rattle.bdz_table.proofs.lookup.index_batch.Reads as index-batch
+use Rattle.bdz_table.proofs.lookup.lookup_no.Reads as lookup-no
+use Rattle.bdz_table.proofs.needs.early_assigned.Reads as early-assigned
+use Rattle.bdz_table.proofs.needs.early_compact.Reads as early-compact
 use Rattle.bdz_table.proofs.needs.needs.Reads as needs
 use Rattle.bdz_table.proofs.rank.popcount_bits.Reads as popcount-bits
 use Rattle.bdz_table.proofs.rank.rank_at.Reads as rank-at
@@ -45,6 +48,12 @@ one-refused κs a x y s t p q = p ∙ sym q
 pub one-needs : (κs : _) (a : _) → OneResult (needs.Post κs a)
 one-needs κs a x y s t p q = p ∙ sym q
 
+pub one-early-assigned : (κs : _) (a : _) → OneResult (early-assigned.Post κs a)
+one-early-assigned κs a x y s t p q = p ∙ sym q
+
+pub one-early-compact : (κs : _) (a : _) → OneResult (early-compact.Post κs a)
+one-early-compact κs a x y s t p q = p ∙ sym q
+
 pub one-popcount-bits : (κs : _) (a : _) → OneResult (popcount-bits.Post κs a)
 one-popcount-bits κs a x y s t p q = p ∙ sym q
 
@@ -53,6 +62,9 @@ one-supers-from-occ-bytes κs a x y s t p q = (p .number-is ∙ sym (q .number-i
 
 pub one-rank-at : (κs : _) (a : _) → OneResult (rank-at.Post κs a)
 one-rank-at κs a x y s t p q = p ∙ sym q
+
+pub one-lookup-no : (κs : _) (a : _) → OneResult (lookup-no.Post κs a)
+one-lookup-no κs a x y s t p q = p ∙ sym q
 
 pub one-finish-index : (κs : _) (a : _) → OneResult (finish-index.Post κs a)
 one-finish-index κs a x y s t p q = p ∙ sym q

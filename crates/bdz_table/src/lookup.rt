@@ -48,7 +48,14 @@ fn room_no(kind: Kind, m: u32, table: usize, occ: usize, supers: usize) -> u32
 }
 
 // The refusal of a lookup by the lengths of what is lent, or 0.
-fn lookup_no(index: Index, keys: usize, table: usize, occ: usize, supers: usize, out: usize) -> u32
+pub fn lookup_no(
+    index: Index,
+    keys: usize,
+    table: usize,
+    occ: usize,
+    supers: usize,
+    out: usize,
+) -> u32
     ensures { λ r. ⌜ r ≡ lookupNo index keys table occ supers out ⌝ }
 {
     if keys == 0 {

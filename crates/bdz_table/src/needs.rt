@@ -15,15 +15,15 @@ use bdz_base::size::vertex_count;
 use bdz_base::verts::Kind;
 
 // How much of each buffer is lent.
-pub(crate) struct Lengths {
-    pub(crate) table: usize,
-    pub(crate) degrees: usize,
-    pub(crate) xors: usize,
-    pub(crate) queue: usize,
-    pub(crate) order: usize,
-    pub(crate) marks: usize,
-    pub(crate) occupancy: usize,
-    pub(crate) seen: usize,
+pub struct Lengths {
+    pub table: usize,
+    pub degrees: usize,
+    pub xors: usize,
+    pub queue: usize,
+    pub order: usize,
+    pub marks: usize,
+    pub occupancy: usize,
+    pub seen: usize,
 }
 
 fn size_for(kind: Kind, n: u32) -> u64
@@ -116,7 +116,7 @@ fn lacks_room(need: Needs, lent: Lengths) -> bool
 }
 
 // The checks of an assigned build before anything is touched.
-pub(crate) fn early_assigned(n: usize, values: usize, modulus: u32, lent: Lengths) -> u32
+pub fn early_assigned(n: usize, values: usize, modulus: u32, lent: Lengths) -> u32
     ensures { λ r. ⌜ r ≡ assignedEarly n values modulus lent ⌝ }
 {
     if n != values {
@@ -141,7 +141,7 @@ pub(crate) fn early_assigned(n: usize, values: usize, modulus: u32, lent: Length
 }
 
 // The same of a compact build.
-pub(crate) fn early_compact(n: usize, lent: Lengths) -> u32
+pub fn early_compact(n: usize, lent: Lengths) -> u32
     ensures { λ r. ⌜ r ≡ compactEarly n lent ⌝ }
 {
     if n == 0 {
