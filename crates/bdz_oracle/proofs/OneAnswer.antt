@@ -31,6 +31,9 @@ use Rattle.bdz_oracle.proofs.imaging.bdz_audit.Reads as bdz-audit
 use Rattle.bdz_oracle.proofs.imaging.bdz_image_len.Reads as bdz-image-len
 use Rattle.bdz_oracle.proofs.imaging.bdz_open_compact.Reads as bdz-open-compact
 use Rattle.bdz_oracle.proofs.imaging.bdz_open_packed.Reads as bdz-open-packed
+use Rattle.bdz_oracle.proofs.imaging.bdz_body_off.Reads as bdz-body-off
+use Rattle.bdz_oracle.proofs.imaging.bdz_end_off.Reads as bdz-end-off
+use Rattle.bdz_oracle.proofs.imaging.bdz_occ_off.Reads as bdz-occ-off
 use Rattle.bdz_oracle.proofs.imaging.bdz_trailer_off.Reads as bdz-trailer-off
 use Rattle.bdz_oracle.proofs.imaging.bdz_write_image.Reads as bdz-write-image
 use Rattle.bdz_oracle.proofs.listing.bdz_read_list.Reads as bdz-read-list
@@ -111,6 +114,15 @@ one-bdz-index-words κs a x y s t p q = (p .number-is ∙ sym (q .number-is), p 
 
 pub one-bdz-image-len : (κs : _) (a : _) → OneResult (bdz-image-len.Post κs a)
 one-bdz-image-len κs a x y s t p q = p ∙ sym q
+
+pub one-bdz-body-off : (κs : _) (a : _) → OneResult (bdz-body-off.Post κs a)
+one-bdz-body-off κs a x y s t p q = p ∙ sym q
+
+pub one-bdz-occ-off : (κs : _) (a : _) → OneResult (bdz-occ-off.Post κs a)
+one-bdz-occ-off κs a x y s t p q = p ∙ sym q
+
+pub one-bdz-end-off : (κs : _) (a : _) → OneResult (bdz-end-off.Post κs a)
+one-bdz-end-off κs a x y s t p q = p ∙ sym q
 
 pub one-bdz-trailer-off : (κs : _) (a : _) → OneResult (bdz-trailer-off.Post κs a)
 one-bdz-trailer-off κs a x y s t p q = p ∙ sym q

@@ -16,7 +16,8 @@ use bdz_image::feed::start_no;
 use bdz_image::page::g_page_need;
 use bdz_table::index::Index;
 
-fn record_of(compact: u32, n: u32, m: u32, seed: u64, modulus: u32, width: u32) -> Index
+// An index from all its numbers.
+pub(crate) fn record_of(compact: u32, n: u32, m: u32, seed: u64, modulus: u32, width: u32) -> Index
     ensures { λ r. ⌜ r ≡ recordOf compact n m seed modulus width ⌝ }
 {
     Index {

@@ -2,16 +2,22 @@
 ghost use mathlib.Core.Path.{_≡_};
 ghost use Rattle.bdz_image.specs.Image.{imageLen, trailerOff};
 ghost use Rattle.bdz_image.specs.Open.{openPacked, openCompact};
+ghost use Rattle.bdz_image.specs.Parts.{bodyOff, occOff, endOff};
 ghost use Rattle.bdz_image.specs.Write.{Wrote};
+ghost use Rattle.bdz_oracle.specs.Feeding.{recordOf};
 ghost use Rattle.bdz_oracle.specs.Looking.{indexOf};
 ghost use Rattle.bdz_oracle.specs.Imaging.{oneIf, ToldIndex, ToldAudit};
 use super::building::tell;
+use super::feeding::record_of;
 use super::reading::kind_of;
 use bdz_base::refusal::NO_ROOM;
 use bdz_base::verts::Kind;
 use bdz_image::audit::audit;
 use bdz_image::open::open_compact;
 use bdz_image::open::open_packed;
+use bdz_image::parts::body_off;
+use bdz_image::parts::end_off;
+use bdz_image::parts::occ_off;
 use bdz_image::size::image_len;
 use bdz_image::size::trailer_off;
 use bdz_image::write::write_image;
@@ -44,6 +50,28 @@ pub extern "C" fn bdz_trailer_off(n: u32, m: u32) -> u64
         modulus: 0,
         width: 0,
     })
+}
+
+// Where the parts of an image stand, by the width of its record: the table's start, its end, and the image's end.
+#[no_mangle]
+pub extern "C" fn bdz_body_off(compact: u32, n: u32, m: u32, width: u32) -> u64
+    ensures { λ r. ⌜ r ≡ bodyOff (recordOf compact n m 0 0 width) ⌝ }
+{
+    body_off(record_of(compact, n, m, 0, 0, width))
+}
+
+#[no_mangle]
+pub extern "C" fn bdz_occ_off(compact: u32, n: u32, m: u32, width: u32) -> u64
+    ensures { λ r. ⌜ r ≡ occOff (recordOf compact n m 0 0 width) ⌝ }
+{
+    occ_off(record_of(compact, n, m, 0, 0, width))
+}
+
+#[no_mangle]
+pub extern "C" fn bdz_end_off(compact: u32, n: u32, m: u32, width: u32) -> u64
+    ensures { λ r. ⌜ r ≡ endOff (recordOf compact n m 0 0 width) ⌝ }
+{
+    end_off(record_of(compact, n, m, 0, 0, width))
 }
 
 #[no_mangle]
