@@ -199,6 +199,9 @@ extern "C" {
     ) -> u32;
     fn bdz_image_len(compact: u32, n: u32, m: u32, modulus: u32) -> u64;
     fn bdz_trailer_off(n: u32, m: u32) -> u64;
+    fn bdz_body_off(compact: u32, n: u32, m: u32, width: u32) -> u64;
+    fn bdz_occ_off(compact: u32, n: u32, m: u32, width: u32) -> u64;
+    fn bdz_end_off(compact: u32, n: u32, m: u32, width: u32) -> u64;
     fn bdz_write_image(
         compact: u32,
         n: u32,
@@ -565,6 +568,11 @@ pub fn image_len(compact: u32, n: u32, m: u32, modulus: u32) -> u64 {
 
 pub fn trailer_off(n: u32, m: u32) -> u64 {
     unsafe { bdz_trailer_off(n, m) }
+}
+
+/// Where the table starts and ends, and where the image ends.
+pub fn parts(compact: u32, n: u32, m: u32, width: u32) -> [u64; 3] {
+    [bdz_body_off, bdz_occ_off, bdz_end_off].map(|part| unsafe { part(compact, n, m, width) })
 }
 
 /// A writer has no use for super counts.

@@ -55,7 +55,13 @@ const FULL_OF_MORE: u32 = 21;
 const LAST_BYTE_MISSING: u32 = 22;
 /// Leaves the answer alone where it refuses.
 const TELLS_NOTHING: u32 = 23;
-const FAULTS: u32 = 24;
+/// Takes m words for the parts of an image of no keys.
+const PARTS_OF_NONE: u32 = 24;
+/// Has an occupancy in the parts of a BDZ2.
+const PARTS_OF_BOTH: u32 = 25;
+/// Starts the table at the header.
+const PARTS_AT_ONCE: u32 = 26;
+const FAULTS: u32 = 27;
 
 /// The four bytes from there on.
 fn word(first: &[u8], at: usize) -> u32 {
@@ -195,8 +201,22 @@ fn audit<const FAULT: u32>(n: u32, m: u32, bits: &[u8], answer: &mut [u64]) -> u
     DONE
 }
 
+fn parts<const FAULT: u32>(compact: u32, n: u32, m: u32, width: u32) -> [u64; 3] {
+    let m = match n {
+        0 if FAULT != PARTS_OF_NONE => 0,
+        _ => m,
+    };
+    let table = length_of::<false, NO_FAULT>(m, width);
+    let end = match compact != 0 || FAULT == PARTS_OF_BOTH {
+        true => length_of::<true, NO_FAULT>(m, width),
+        false => table,
+    };
+    [if FAULT == PARTS_AT_ONCE { 0 } else { 32 }, table, end]
+}
+
 fn calls<const FAULT: u32>() -> Calls {
     Calls {
+        parts: parts::<FAULT>,
         packed: open::<false, FAULT>,
         compact: open::<true, FAULT>,
         audit: audit::<FAULT>,
@@ -247,6 +267,9 @@ fn every_fault_is_found() {
         (FULL_OF_MORE, calls::<FULL_OF_MORE>()),
         (LAST_BYTE_MISSING, calls::<LAST_BYTE_MISSING>()),
         (TELLS_NOTHING, calls::<TELLS_NOTHING>()),
+        (PARTS_OF_NONE, calls::<PARTS_OF_NONE>()),
+        (PARTS_OF_BOTH, calls::<PARTS_OF_BOTH>()),
+        (PARTS_AT_ONCE, calls::<PARTS_AT_ONCE>()),
     ];
     assert!(faulty.iter().map(|(fault, _)| *fault).eq(1..FAULTS));
     for (fault, calls) in faulty {

@@ -1,8 +1,8 @@
-//! The attack on the two openers and the audit: headers that no writer makes, lengths and buffers
+//! The attack on the two openers, the parts of what they open, and the audit: headers that no writer makes, lengths and buffers
 //! about what they must be.
 
 use super::{around, meets, met, rounds, Target};
-use crate::lent::{more, Fenced, Left, Lent, Loan};
+use crate::lent::{flag, more, Fenced, Left, Lent, Loan};
 use crate::model::image::{self, get, put, FIELDS, HEADER, MAGIC, VERSION, WIDTH};
 use crate::model::rank;
 use crate::ours::{
@@ -18,6 +18,8 @@ pub const TARGET: Target = Target {
         ("bdz_open_packed", 1_000),
         ("bdz_open_compact", 1_000),
         ("bdz_audit", 1_000),
+        ("parts of an opened image", 1_000),
+        ("parts of any record", 1_000),
         meets(DONE),
         meets(SHORT_PREAD),
         meets(G_LENGTH),
@@ -34,6 +36,7 @@ pub const TARGET: Target = Target {
 
 type Open = fn(&[u8], u64, &mut [u64]) -> u32;
 type Audit = fn(u32, u32, &[u8], &mut [u64]) -> u32;
+type Parts = fn(u32, u32, u32, u32) -> [u64; 3];
 
 /// The calls that are attacked: ours, or such as stand in for them where the attack itself is tried.
 #[derive(Clone, Copy)]
@@ -41,6 +44,7 @@ pub struct Calls {
     pub packed: Open,
     pub compact: Open,
     pub audit: Audit,
+    pub parts: Parts,
 }
 
 impl Calls {
@@ -48,6 +52,7 @@ impl Calls {
         packed: ours::open_packed,
         compact: ours::open_compact,
         audit: ours::audit,
+        parts: ours::parts,
     };
 }
 
@@ -74,6 +79,7 @@ pub fn run(tally: &mut Tally, rng: &mut Rng, calls: Calls, least: u64) -> Result
             }
             attack.any_numbers(compact)?;
         }
+        attack.any_parts()?;
         attack.audits()
     })
 }
@@ -113,6 +119,37 @@ impl Attack<'_> {
             )
         })?;
         met(self.tally, agreed);
+        if agreed == DONE {
+            let [n, m, _, _, width] = opened.answer.map(|number| number as u32);
+            self.parts("parts of an opened image", compact, [n, m, width])?;
+        }
+        Ok(())
+    }
+
+    /// The places of the parts, by n, m and width; of an opened image they lie within it.
+    fn parts(
+        &mut self,
+        what: &'static str,
+        compact: bool,
+        [n, m, width]: [u32; 3],
+    ) -> Result<(), Difference> {
+        let ours = (self.calls.parts)(flag(self.rng, compact), n, m, width);
+        let agreed = image::parts(compact, n, m, width);
+        self.tally.same(what, ours, agreed, || {
+            format!("compact {compact}, n {n}, m {m}, width {width}")
+        })
+    }
+
+    /// Of records that no opener gives as well.
+    fn any_parts(&mut self) -> Result<(), Difference> {
+        for _ in 0..DRAWN {
+            let [n, m, width] = [(); 3].map(|()| self.rng.edge_u32());
+            for record in [[n, m, width], [n.min(2), m, width % 34]] {
+                for compact in [false, true] {
+                    self.parts("parts of any record", compact, record)?;
+                }
+            }
+        }
         Ok(())
     }
 

@@ -70,6 +70,18 @@ pub fn length(compact: bool, m: u32, width: u32) -> u64 {
     HEADER as u64 + table_bytes(m, width) + occupancy
 }
 
+/// Where the table starts and ends, and where the image ends, by the numbers of a record: "for n = 0
+/// .. the header alone".
+pub fn parts(compact: bool, n: u32, m: u32, width: u32) -> [u64; 3] {
+    let words = if n == 0 { 0 } else { m };
+    let start = HEADER as u64;
+    [
+        start,
+        start + table_bytes(words, width),
+        length(compact, words, width),
+    ]
+}
+
 /// How many bytes a header asks for, whether or not it is refused before that is asked.
 pub fn asked(compact: bool, header: &[u8]) -> u64 {
     let [n, m, width] = [N, M, WIDTH].map(|field| get(header, field) as u32);

@@ -37,7 +37,9 @@ pub extern "C" fn bdz_g_page_need(n_bytes: u64, page: u32) -> u64
     g_page_need(n_bytes, page)
 }
 
-// A feed for keys that come as bytes, in an index of the assigned kind for 0 and of the compact kind for any other number; told are how many keys and pages it has, zeros of a refusal. 14 where they have no room, then where the keys have none, then the start's own numbers; all are judged before the keys are read, so a refusal touches nothing else.
+// A feed for keys that come as bytes, in an index of the assigned kind for 0 and of the compact kind for any other number; told
+// are how many keys and pages it has, zeros of a refusal. 14 where they have no room, then where the keys have none, then the
+// start's own numbers; all are judged before the keys are read, so a refusal touches nothing else.
 #[no_mangle]
 pub extern "C" fn bdz_feed_start(
     keys: &[u8],

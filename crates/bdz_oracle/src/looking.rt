@@ -43,7 +43,8 @@ pub extern "C" fn bdz_rank1_no(occ: &[u8], supers: &[u32], m: u32, v: u32) -> u3
     rank1(occ, supers, m, v).no
 }
 
-// The answer for each key, in an index of the assigned kind for 0 and of the compact kind for any other number. 14 where the keys have no room, then the lookup's own numbers; all are judged before the keys are read, so a refusal touches nothing.
+// The answer for each key, in an index of the assigned kind for 0 and of the compact kind for any other number. 14 where the
+// keys have no room, then the lookup's own numbers; all are judged before the keys are read, so a refusal touches nothing.
 #[no_mangle]
 pub extern "C" fn bdz_index_batch(
     keys: &[u8],
