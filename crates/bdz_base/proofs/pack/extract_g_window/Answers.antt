@@ -1,0 +1,8 @@
+-- `bdz_base::pack::extract_g_window` meets its contract. Assumes nothing.
+use Rattle.bdz_base.proofs.Digits.{bits_in_word}
+use Rattle.bdz_base.proofs.pack.extract_g_window.Goals as goal
+
+pub returns : goal.returns
+returns c =
+    let a = c.args in
+    bits_in_word a.part.now a.start a.width c.le64.ensures c.word_bits.ensures c.low_bits.ensures.0

@@ -1,0 +1,58 @@
+-- `bdz_base::pack::lacks_room` meets its contract: the bytes of eights of words, and then of the words that are left, make the
+-- bytes of all. Assumes nothing.
+use Rattle.std.proofs.Common.{◌≡◌, ℕ, ◌+◌, ◌-◌, ◌*◌, ◌/◌, ◌%◌, ◌<◌, ◌≤◌, ltb, sym, ap, ◌∙◌, div-lt_iff_lt-mul, add-mul, mul-le-mul, div-add-mod', le-div_iff_mul-le, mul_right_comm, arith, le-ltb, lt-ltb}
+use native.Mathlib.Decide.{dec_lt}
+use Rattle.bdz_base.specs.Sizes.{table_bytes}
+use Rattle.bdz_base.proofs.pack.lacks_room.Goals as goal
+
+in_eights : (words w : ℕ) → words * w ≡ words / 8 * w * 8 + words % 8 * w
+in_eights words w =
+    ap (λ (x : ℕ). x * w) (sym (div-add-mod' words 8)) ∙ rw (add-mul (words / 8 * 8) (words % 8) w, mul_right_comm (words / 8) 8 w)
+
+bytes_in_eights : (words w : ℕ) → table_bytes w words ≡ words / 8 * w + (words % 8 * w + 7) / 8
+bytes_in_eights words w = omega (arith, in_eights words w)
+
+too_many : (words w bytes : ℕ) → 0 < w → bytes / w < words / 8 → bytes < table_bytes w words
+too_many words w bytes p h =
+    omega (arith, bytes_in_eights words w, (div-lt_iff_lt-mul {k = w} {x = bytes} {y = words / 8} p).0 h)
+
+enough_eights : (words w bytes : ℕ) → 0 < w → words / 8 ≤ bytes / w → words / 8 * w ≤ bytes
+enough_eights words w bytes p h = (le-div_iff_mul-le {k = w} {x = words / 8} {y = bytes} p).0 h
+
+less_left : (taken rest bytes : ℕ) → taken ≤ bytes → ltb (bytes - taken) rest ≡ ltb bytes (taken + rest)
+less_left taken rest bytes h = go (dec_lt bytes (taken + rest))
+  where
+    go : Dec (bytes < taken + rest) → ltb (bytes - taken) rest ≡ ltb bytes (taken + rest)
+    go (yes l) = lt-ltb (bytes - taken) rest (omega arith) ∙ sym (lt-ltb bytes (taken + rest) l)
+    go (no l) = le-ltb (bytes - taken) rest (omega arith) ∙ sym (le-ltb bytes (taken + rest) (omega arith))
+
+last_few : (words w : ℕ) → w ≤ 32 → words % 8 * w ≤ 224
+last_few words w h = let l : words % 8 ≤ 7 = omega arith in mul-le-mul l h
+
+pub returns-then-eights-bytes : goal.returns-then-eights-bytes
+returns-then-eights-bytes c =
+    let a = c.args in
+    sym (lt-ltb a.bytes (table_bytes a.width a.words) (too_many a.words a.width a.bytes (omega arith) c.if-eights-bytes.true))
+
+pub overflow_mul-left : goal.overflow_mul-left
+overflow_mul-left c =
+    let a = c.args in
+    omega (arith, enough_eights a.words a.width a.bytes (omega arith) c.if-eights-bytes.false)
+
+pub overflow_sub-left : goal.overflow_sub-left
+overflow_sub-left c =
+    let a = c.args in
+    enough_eights a.words a.width a.bytes (omega arith) c.if-eights-bytes.false
+
+pub overflow_mul-result : goal.overflow_mul-result
+overflow_mul-result c = let a = c.args in omega (arith, last_few a.words a.width (omega arith))
+
+pub overflow_add-result : goal.overflow_add-result
+overflow_add-result c = let a = c.args in omega (arith, last_few a.words a.width (omega arith))
+
+pub returns : goal.returns
+returns c =
+    let a = c.args in
+    rw (bytes_in_eights a.words a.width)
+    (less_left (a.words / 8 * a.width) ((a.words % 8 * a.width + 7) / 8) a.bytes
+    (enough_eights a.words a.width a.bytes (omega arith) c.if-eights-bytes.false))
