@@ -5,7 +5,7 @@ ghost use Rattle.bdz_base.specs.Mix.{mix64_of, step_of};
 use super::words::wrapping_mul64;
 
 // What one splitmix64 step gives: the state after it, and a seed.
-#[derive(Drop)]
+#[derive(Clone, Copy)]
 pub struct Step {
     pub state: u64,
     pub seed: u64,

@@ -9,7 +9,7 @@ use super::refusal::{ACCEPTED, G_BITS, NO_ROOM};
 use super::words::{join, le64, low_bits};
 
 // What has come in and not gone out: the lowest `bits` bits of acc, which belong at the byte `at`.
-#[derive(Drop)]
+#[derive(Clone, Copy)]
 struct Carry {
     acc: u64,
     bits: u32,

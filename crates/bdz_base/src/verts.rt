@@ -6,13 +6,13 @@ use super::mix::mix64;
 use super::words::{mul_high, rotate_left};
 
 // The two kinds of index.
-#[derive(Drop)]
+#[derive(Clone, Copy)]
 pub enum Kind {
     Assigned,
     Compact,
 }
 
-#[derive(Drop)]
+#[derive(Clone, Copy)]
 pub struct Verts {
     pub a: u32,
     pub b: u32,

@@ -4,7 +4,7 @@ ghost use Rattle.bdz_image.specs.Ask.{words_of};
 
 use bdz_base::refusal::{ACCEPTED, WAITING};
 
-#[derive(Drop)]
+#[derive(Clone, Copy)]
 pub struct Words {
     pub no: u32,
     pub a: u32,

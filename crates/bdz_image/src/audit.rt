@@ -8,7 +8,7 @@ use bdz_table::index::Index;
 use bdz_table::rank::popcount_bits;
 
 // What an audit finds: a refusal number, or 0, the ones in the occupancy, and whether there are n of them.
-#[derive(Drop)]
+#[derive(Clone, Copy)]
 pub struct Audited {
     pub no: u32,
     pub ones: u64,

@@ -14,7 +14,7 @@ use bdz_table::index::{Answer, Index};
 use bdz_table::lookup::finish_index;
 
 // A refusal number, or 0 and how many keys the feed has and how many pages it lists.
-#[derive(Drop)]
+#[derive(Clone, Copy)]
 pub struct Feed {
     pub no: u32,
     pub keys: u64,

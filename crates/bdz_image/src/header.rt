@@ -9,7 +9,7 @@ use bdz_base::words::le64;
 use bdz_table::index::{Index, width_for};
 
 // Its fields.
-#[derive(Drop)]
+#[derive(Clone, Copy)]
 pub struct Header {
     pub magic: u32,
     pub version: u32,

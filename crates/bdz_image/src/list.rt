@@ -35,7 +35,7 @@ fn own_page(order: &[u64], i: usize, width: u32) -> u32
 }
 
 // How many pages are listed, and the first number behind them.
-#[derive(Drop)]
+#[derive(Clone, Copy)]
 struct Listed {
     count: usize,
     next: u32,

@@ -3,7 +3,7 @@ ghost use Rattle.std.specs.Prelude.{◌≡◌, length};
 ghost use Rattle.bdz_image.specs.Text.{text_of, room_for};
 
 // A text by value: 18 bytes of room, and how many of them are text.
-#[derive(Drop)]
+#[derive(Clone, Copy)]
 pub struct Text {
     pub bytes: [u8; 18],
     pub len: usize,

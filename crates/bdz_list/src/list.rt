@@ -9,7 +9,7 @@ use bdz_base::verts::Kind;
 use bdz_base::words::le64;
 
 // A refusal number, or 0 with the list's kind, its modulus (0 in a compact list) and how many keys it has.
-#[derive(Drop)]
+#[derive(Clone, Copy)]
 pub struct Listed {
     pub no: u32,
     pub kind: Kind,

@@ -11,7 +11,7 @@ use bdz_base::refusal::{ACCEPTED, NO_ROOM};
 use bdz_base::size::occ_packed_bytes;
 
 // A refusal number, or 0 and how many answers are the first of their kind.
-#[derive(Drop)]
+#[derive(Clone, Copy)]
 pub struct Held {
     pub no: u32,
     pub count: u64,

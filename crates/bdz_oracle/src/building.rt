@@ -12,7 +12,7 @@ use bdz_table::needs::{Lengths, early_assigned, early_compact};
 use bdz_table::pairs::Pair;
 
 // What comes before a build: the number of its early checks, and how many keys were read, none of a refusal.
-#[derive(Drop)]
+#[derive(Clone, Copy)]
 pub(crate) struct Read {
     pub(crate) no: u32,
     pub(crate) count: usize,

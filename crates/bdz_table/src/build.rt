@@ -17,7 +17,7 @@ use bdz_base::refusal::{ACCEPTED, GRAPH_DID_NOT_PEEL};
 use bdz_base::verts::Kind;
 
 // What a run came to: a refusal number, or 0 and the seed; and how many pairs are still to be noted and assigned.
-#[derive(Drop)]
+#[derive(Clone, Copy)]
 struct Ran {
     no: u32,
     seed: u64,
@@ -25,7 +25,7 @@ struct Ran {
 }
 
 // A build before its pairs are noted: its answer, and where the pairs are assigned; how much of the scratch and of the order it uses.
-#[derive(Drop)]
+#[derive(Clone, Copy)]
 pub(crate) struct Ready {
     pub(crate) built: Built,
     pub(crate) seed: u64,

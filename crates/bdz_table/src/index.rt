@@ -5,7 +5,7 @@ ghost use Rattle.bdz_table.specs.Build.{width_for, refused_build};
 use bdz_base::size::g_bits_for_modulus;
 use bdz_base::verts::Kind;
 
-#[derive(Drop)]
+#[derive(Clone, Copy)]
 pub struct Index {
     pub kind: Kind,
     pub n: u32,
@@ -16,14 +16,14 @@ pub struct Index {
 }
 
 // A refusal number, or 0 and the index.
-#[derive(Drop)]
+#[derive(Clone, Copy)]
 pub struct Built {
     pub no: u32,
     pub index: Index,
 }
 
 // A refusal number, or 0 and the answer.
-#[derive(Drop)]
+#[derive(Clone, Copy)]
 pub struct Answer {
     pub no: u32,
     pub answer: u32,
@@ -31,7 +31,7 @@ pub struct Answer {
 
 // What a build needs: words of the table; words or bytes a vertex of xors, queue, degrees and marks; pairs of the order;
 // bytes of the occupancy and of the seen values.
-#[derive(Drop)]
+#[derive(Clone, Copy)]
 pub struct Needs {
     pub table: u64,
     pub vertices: u64,

@@ -1,4 +1,6 @@
 // Tables: peeling, both assigns, the builds, ranks and lookups.
+#![tactic(auto)]
+
 pub mod assign;
 pub mod build;
 pub mod index;

@@ -8,7 +8,7 @@ use bdz_base::size::{compact_vertex_count, occ_packed_bytes, vertex_count};
 use bdz_base::verts::Kind;
 
 // How much of each buffer is lent.
-#[derive(Drop)]
+#[derive(Clone, Copy)]
 pub struct Lengths {
     pub table: usize,
     pub degrees: usize,

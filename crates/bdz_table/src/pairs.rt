@@ -13,7 +13,7 @@ use bdz_base::verts::Kind;
 
 // A removed key's number, with the vertex that it was removed by.
 #[repr(C)]
-#[derive(Drop)]
+#[derive(Clone, Copy)]
 pub struct Pair {
     pub edge: u32,
     pub vert: u32,

@@ -9,7 +9,7 @@ use bdz_base::mix::splitmix64;
 use bdz_base::verts::Kind;
 
 // How many tries failed before the first that worked, 256 if none did, and the seed of that one.
-#[derive(Drop)]
+#[derive(Clone, Copy)]
 pub(crate) struct Found {
     pub(crate) tries: usize,
     pub(crate) seed: u64,

@@ -5,7 +5,7 @@ ghost use Rattle.bdz_table.specs.Rank.{ranked_of};
 use super::index::Answer;
 use super::rank::rank_at;
 
-#[derive(Drop)]
+#[derive(Clone, Copy)]
 pub struct RankView<'a, 'b> {
     pub m: u32,
     pub occ: &'a [u8],
