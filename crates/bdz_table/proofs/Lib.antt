@@ -13,9 +13,6 @@ pub mod Found
 pub mod Has
 pub mod Judging
 pub mod Leaving
-pub mod LendAgain
-pub mod LendLocal
-pub mod LendShared
 pub mod Mapped
 pub mod NeedLaws
 pub mod Noting
@@ -34,7 +31,6 @@ pub mod Runs
 pub mod Tries
 pub mod Turning
 pub mod TwoBuilt
-pub mod Views
 pub mod Walking
 pub mod Words
 pub mod Zeroing

@@ -1,0 +1,18 @@
+-- `bdz_table::assign::assign_one` meets its contract. Assumes nothing.
+use Rattle.std.proofs.Common.{ap, ◌∙◌, mod-lt, arith, rules}
+use Rattle.bdz_table.specs.Assign.{sum_at}
+use Rattle.bdz_table.proofs.Words.{reach_of, word_of}
+use Rattle.bdz_table.proofs.assign.assign_one.Goals as goal
+
+pub sum_marked-s-requires : goal.sum_marked-s-requires
+sum_marked-s-requires c =
+    let a = c.args in
+    record { marked = c.requires.marked; reach = rw c.vertices_of-us.ensures (reach_of a.kind a.key a.seed a.m a.g.now (omega arith) (omega arith)) }
+
+pub overflow_sub-w : goal.overflow_sub-w
+overflow_sub-w c = omega (arith, mod-lt c.sum_marked-s.result {m = c.args.modulus} (omega arith))
+
+pub returns : goal.returns
+returns c =
+    let a = c.args in
+    word_of _ _ _ _ _ _ _ (c.sum_marked-s.ensures ∙ ap (sum_at a.g.now) c.vertices_of-us.ensures)

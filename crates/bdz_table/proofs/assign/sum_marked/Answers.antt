@@ -1,0 +1,28 @@
+-- `bdz_table::assign::sum_marked` meets its contract. Assumes nothing.
+use Rattle.std.proofs.Common.{◌-◌, length, ⊎_elim, arith, rules}
+use Rattle.bdz_table.proofs.Words.{Summing, summing_none, summing_all, summing_inside, summing_insidem, summing_fits, summing_add, summing_pass}
+use Rattle.bdz_table.proofs.assign.sum_marked.Goals as goal
+
+pub loop-j-init : goal.loop-j-init
+loop-j-init c = summing_none _ _ _
+
+pub overflow_cast-u : goal.overflow_cast-u
+overflow_cast-u c = omega (arith, c.type_inv.us c.loop-j.j)
+
+pub bounds-marks-u : goal.bounds-marks-u
+bounds-marks-u c = summing_insidem _ _ _ _ c.requires.marked c.requires.reach _ _ c.loop-j.invariant c.loop-j-test.true
+
+pub offset_bounds-g-u : goal.offset_bounds-g-u
+offset_bounds-g-u c = omega (arith, c.type_inv.us c.loop-j.j)
+
+pub bounds-g-u : goal.bounds-g-u
+bounds-g-u c = summing_inside _ _ _ _ c.requires.marked c.requires.reach _ _ c.loop-j.invariant c.loop-j-test.true
+
+pub overflow_add-s : goal.overflow_add-s
+overflow_add-s c = omega (arith, summing_fits _ _ _ _ c.requires.marked c.requires.reach _ _ c.loop-j.invariant c.loop-j-test.true)
+
+pub loop-j-preserved : goal.loop-j-preserved
+loop-j-preserved c = ⊎_elim (λ w. rw w.2 (summing_add _ _ _ _ c.requires.marked c.requires.reach _ _ c.loop-j.invariant c.loop-j-test.true)) (λ w. rw w.1 (summing_pass _ _ _ _ c.requires.marked c.requires.reach _ _ c.loop-j.invariant c.loop-j-test.true w.0.left)) c.if-marks-u-ne0.branch
+
+pub returns : goal.returns
+returns c = summing_all _ _ _ _ c.requires.marked c.requires.reach _ _ c.loop-j.invariant c.loop-j-test.false

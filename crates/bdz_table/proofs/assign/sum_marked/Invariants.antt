@@ -1,0 +1,10 @@
+-- `bdz_table::assign::sum_marked` meets its contract. Assumes nothing.
+use Rattle.std.proofs.Common.{◌-◌, length, ⊎_elim, arith, rules}
+use Rattle.bdz_table.proofs.Words.{Summing, summing_none, summing_all, summing_inside, summing_insidem, summing_fits, summing_add, summing_pass}
+use Rattle.bdz_table.proofs.assign.sum_marked.Given as goal
+
+abbrev pub invariant-loop-j : goal.invariant-loop-j
+invariant-loop-j l = Summing l.modulus l.us l.g l.s l.j
+
+abbrev pub decreases-loop-j : goal.decreases-loop-j
+decreases-loop-j l = length l.us - l.j

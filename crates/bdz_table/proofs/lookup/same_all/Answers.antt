@@ -1,0 +1,21 @@
+-- `bdz_table::lookup::same_all` meets its contract. The loop's invariant: i answers stand in out. Assumes nothing.
+use Rattle.std.proofs.Common.{◌-◌, refl, arith, rules}
+use Rattle.bdz_base.proofs.Buffers.{Filled, filled_none, filled_more, filled_all}
+use Rattle.bdz_table.proofs.lookup.same_all.Goals as goal
+
+pub loop-i-init : goal.loop-i-init
+loop-i-init c =
+    let a = c.args in
+    filled_none (λ k. a.answer) a.keys a.out.now
+
+pub bounds-out-i : goal.bounds-out-i
+bounds-out-i c = omega (arith, c.loop-i.invariant.long)
+
+pub loop-i-preserved : goal.loop-i-preserved
+loop-i-preserved c = filled_more c.loop-i.invariant (omega arith) (omega arith) refl
+
+pub shape_of-out : goal.shape_of-out
+shape_of-out c = c.loop-i.invariant.long
+
+pub returns : goal.returns
+returns c = filled_all c.loop-i.invariant (omega arith)

@@ -1,0 +1,25 @@
+-- `bdz_table::peel::fill_queue` meets its contract. Assumes nothing.
+use Rattle.std.proofs.Common.{◌-◌, length, ⊎_elim, arith, rules}
+use Rattle.bdz_table.proofs.Counting.{Filling, filling_none, filling_all, filling_skip, filling_push, filling_room}
+use Rattle.bdz_table.proofs.peel.fill_queue.Goals as goal
+
+pub loop-v-init : goal.loop-v-init
+loop-v-init c = filling_none _ _
+
+pub offset_bounds-q-n : goal.offset_bounds-q-n
+offset_bounds-q-n c = omega (arith, filling_room _ _ _ _ _ c.loop-v.invariant c.loop-v-test.true c.requires.0)
+
+pub bounds-q-n : goal.bounds-q-n
+bounds-q-n c = filling_room _ _ _ _ _ c.loop-v.invariant c.loop-v-test.true c.requires.0
+
+pub overflow_add-n : goal.overflow_add-n
+overflow_add-n c = omega (arith, filling_room _ _ _ _ _ c.loop-v.invariant c.loop-v-test.true c.requires.0)
+
+pub loop-v-preserved : goal.loop-v-preserved
+loop-v-preserved c = ⊎_elim (λ w. rw (w.1, w.2) (filling_push _ _ _ _ _ c.loop-v.invariant c.loop-v-test.true c.requires.0 w.0.taken)) (λ w. rw (w.1, w.2) (filling_skip _ _ _ _ _ c.loop-v.invariant c.loop-v-test.true w.0.left)) c.if-deg-v-eq1.branch
+
+pub shape_of-q : goal.shape_of-q
+shape_of-q c = c.loop-v.invariant.long
+
+pub returns : goal.returns
+returns c = filling_all _ _ _ _ _ c.loop-v.invariant c.loop-v-test.false

@@ -1,0 +1,107 @@
+-- `bdz_table::peel::peel_turns` meets its contract. The loop's invariant: what is left to run of the queue is what was to run at first.
+-- Assumes nothing.
+use Rattle.std.proofs.Common.{◌-◌, length, sym, ◌∙◌, ⊎_elim, arith}
+use Rattle.bdz_table.specs.Keys.{graph_of}
+use Rattle.bdz_table.proofs.Counting.{graph_of_lem}
+use Rattle.bdz_table.proofs.Turning.{Turning, turning_none, turning_take, turning_skip, turning_all, next_inside, key_below, leaves, order_room}
+use Rattle.bdz_table.proofs.peel.peel_turns.Goals as goal
+
+pub loop-qi-init : goal.loop-qi-init
+loop-qi-init c =
+    let G = graph_of_lem c.args.kind c.args.keys.now c.args.seed (length c.args.keys.now) c.args.m c.requires.sizes.some in
+    turning_none _ _ _ _ _ _ _ G c.requires
+
+pub offset_bounds-q-qi : goal.offset_bounds-q-qi
+offset_bounds-q-qi c = omega (arith, c.loop-qi.invariant.room, c.requires.sizes.few, c.loop-qi-test.true)
+
+pub bounds-q-qi : goal.bounds-q-qi
+bounds-q-qi c = omega (arith, c.loop-qi.invariant.room, c.loop-qi.invariant.longq, c.loop-qi-test.true)
+
+pub overflow_cast-v : goal.overflow_cast-v
+overflow_cast-v c = omega (arith, c.type_inv.q c.loop-qi.qi)
+
+pub bounds-deg-v : goal.bounds-deg-v
+bounds-deg-v c =
+    let G = graph_of_lem c.args.kind c.args.keys.now c.args.seed (length c.args.keys.now) c.args.m c.requires.sizes.some in
+    let l = c.loop-qi in
+    omega (arith, next_inside _ _ _ G _ _ _ _ _ _ l.invariant c.loop-qi-test.true, l.invariant.longd)
+
+pub offset_bounds-xor_e-v : goal.offset_bounds-xor_e-v
+offset_bounds-xor_e-v c =
+    let G = graph_of_lem c.args.kind c.args.keys.now c.args.seed (length c.args.keys.now) c.args.m c.requires.sizes.some in
+    let l = c.loop-qi in
+    omega (arith, next_inside _ _ _ G _ _ _ _ _ _ l.invariant c.loop-qi-test.true, c.requires.sizes.few)
+
+pub bounds-xor_e-v : goal.bounds-xor_e-v
+bounds-xor_e-v c =
+    let G = graph_of_lem c.args.kind c.args.keys.now c.args.seed (length c.args.keys.now) c.args.m c.requires.sizes.some in
+    let l = c.loop-qi in
+    omega (arith, next_inside _ _ _ G _ _ _ _ _ _ l.invariant c.loop-qi-test.true, l.invariant.longx)
+
+pub cut_key-qn-requires : goal.cut_key-qn-requires
+cut_key-qn-requires c =
+    let G = graph_of_lem c.args.kind c.args.keys.now c.args.seed (length c.args.keys.now) c.args.m c.requires.sizes.some in
+    let l = c.loop-qi in
+    let test = c.loop-qi-test.true in
+    let one = c.if-deg-v-eq1.true in
+    record { sizes = c.requires.sizes; e_in_bounds = key_below _ _ _ G _ _ _ _ _ _ l.invariant test one; leaves = leaves _ _ _ G _ _ _ _ _ _ l.invariant test one }
+
+pub offset_bounds-q-c : goal.offset_bounds-q-c
+offset_bounds-q-c c =
+    let G = graph_of_lem c.args.kind c.args.keys.now c.args.seed (length c.args.keys.now) c.args.m c.requires.sizes.some in
+    let l = c.loop-qi in
+    omega (arith, order_room _ _ _ G _ _ _ _ _ _ l.invariant c.loop-qi-test.true, c.requires.sizes.few)
+
+pub bounds-q-c : goal.bounds-q-c
+bounds-q-c c =
+    let G = graph_of_lem c.args.kind c.args.keys.now c.args.seed (length c.args.keys.now) c.args.m c.requires.sizes.some in
+    let l = c.loop-qi in
+    omega (arith, order_room _ _ _ G _ _ _ _ _ _ l.invariant c.loop-qi-test.true, l.invariant.longq, c.cut_key-qn.auto.q)
+
+pub offset_bounds-xor_e-v-then-deg-v-eq1 : goal.offset_bounds-xor_e-v-then-deg-v-eq1
+offset_bounds-xor_e-v-then-deg-v-eq1 c =
+    let G = graph_of_lem c.args.kind c.args.keys.now c.args.seed (length c.args.keys.now) c.args.m c.requires.sizes.some in
+    let l = c.loop-qi in
+    omega (arith, next_inside _ _ _ G _ _ _ _ _ _ l.invariant c.loop-qi-test.true, c.requires.sizes.few)
+
+pub bounds-xor_e-v-then-deg-v-eq1 : goal.bounds-xor_e-v-then-deg-v-eq1
+bounds-xor_e-v-then-deg-v-eq1 c =
+    let G = graph_of_lem c.args.kind c.args.keys.now c.args.seed (length c.args.keys.now) c.args.m c.requires.sizes.some in
+    let l = c.loop-qi in
+    omega (arith, next_inside _ _ _ G _ _ _ _ _ _ l.invariant c.loop-qi-test.true, l.invariant.longx, c.cut_key-qn.auto.xor_e)
+
+pub overflow_add-c : goal.overflow_add-c
+overflow_add-c c =
+    let G = graph_of_lem c.args.kind c.args.keys.now c.args.seed (length c.args.keys.now) c.args.m c.requires.sizes.some in
+    let l = c.loop-qi in
+    omega (arith, order_room _ _ _ G _ _ _ _ _ _ l.invariant c.loop-qi-test.true, c.requires.sizes.few)
+
+pub overflow_add-qi : goal.overflow_add-qi
+overflow_add-qi c = omega (arith, c.loop-qi.invariant.room, c.requires.sizes.few, c.loop-qi-test.true)
+
+pub loop-qi-smaller : goal.loop-qi-smaller
+loop-qi-smaller c = omega (arith, c.loop-qi.invariant.room, c.loop-qi-test.true)
+
+pub loop-qi-preserved : goal.loop-qi-preserved
+loop-qi-preserved c =
+    let G = graph_of_lem c.args.kind c.args.keys.now c.args.seed (length c.args.keys.now) c.args.m c.requires.sizes.some in
+    let l = c.loop-qi in
+    let test = c.loop-qi-test.true in
+    ⊎_elim
+    (λ w. rw (w.12, w.13, w.14, w.15, w.16) (turning_take _ _ _ G _ _ _ _ _ _ l.invariant test w.0.taken _ _ _ _ w.5.kept.1.1.1.1.1.0 w.5.kept.1.1.1.1.1.1.0 w.5.kept.1.1.1.1.1.1.1.0 w.5.ensures))
+    (λ w. rw (w.1, w.2, w.3, w.4, w.5) (turning_skip _ _ _ G _ _ _ _ _ _ l.invariant test w.0.left))
+    c.if-deg-v-eq1.branch
+
+pub shape_of-deg : goal.shape_of-deg
+shape_of-deg c = c.loop-qi.invariant.longd ∙ sym c.requires.longd
+
+pub shape_of-xor_e : goal.shape_of-xor_e
+shape_of-xor_e c = c.loop-qi.invariant.longx ∙ sym c.requires.longx
+
+pub shape_of-q : goal.shape_of-q
+shape_of-q c = c.loop-qi.invariant.longq ∙ sym c.requires.longq
+
+pub returns : goal.returns
+returns c =
+    let G = graph_of_lem c.args.kind c.args.keys.now c.args.seed (length c.args.keys.now) c.args.m c.requires.sizes.some in
+    turning_all _ _ _ G _ _ _ _ _ _ c.loop-qi.invariant c.loop-qi-test.false

@@ -1,0 +1,10 @@
+-- `bdz_table::scratch::zero32` meets its contract. Assumes nothing.
+use Rattle.std.proofs.Common.{◌-◌, length, arith, rules}
+use Rattle.bdz_table.proofs.Zeroing.{Zeroed, zeroed_none, zeroed_more, zeroed_all}
+use Rattle.bdz_table.proofs.scratch.zero32.Given as goal
+
+abbrev pub invariant-loop-i : goal.invariant-loop-i
+invariant-loop-i l = Zeroed l.initial.s l.s l.i
+
+abbrev pub decreases-loop-i : goal.decreases-loop-i
+decreases-loop-i l = length l.initial.s - l.i
