@@ -1,6 +1,6 @@
 -- What an accepted build of two keys or more comes to: by an assigned table every key finds its value, by a compact one a vertex of
 -- its own, and the occupancy marks those vertices and no others. Assumes nothing.
-use Rattle.std.proofs.Common.{◌≡◌, ℕ, zero, suc, ◌+◌, ◌*◌, ◌/◌, ◌%◌, ◌^◌, ◌<◌, ◌≤◌, Bool, true, false, cond, not, ◌&&◌, eqb, ◌↔◌, List, [], ◌∷◌, ◌++◌, length, get_or, set, replicate, sym, refl, ap, ◌∙◌, ⊎_elim, mul-one, arith, le-ltb, lt-ltb, ne_eqb, eqb-true}
+use Rattle.std.proofs.Common.{subst, ◌≡◌, ℕ, zero, suc, ◌+◌, ◌*◌, ◌/◌, ◌%◌, ◌^◌, ◌<◌, ◌≤◌, Bool, true, false, cond, not, ◌&&◌, eqb, ◌↔◌, List, [], ◌∷◌, ◌++◌, length, get_or, set, replicate, sym, refl, ap, ◌∙◌, ⊎_elim, mul-one, arith, le-ltb, lt-ltb, ne_eqb, eqb-true}
 use borrow.Author.Tests.{eqb-false}
 use lib.ListN.{length-replicate}
 use Rattle.bdz_base.specs.Mix.{seed_at}
@@ -235,7 +235,7 @@ module _ (vs : ℕ → List ℕ) (n k : ℕ) (part : ℕ → ℕ) (P : Partite v
   unfolding Cuts Sums keys_of ats_of has
   looked_at [] c s e h = clash h refl
   looked_at (p ∷ d) c s e h =
-      ⊎_elim (λ (q : e ≡ p.key). let f = first_at p (keys_of d) c.0 s.0 e q in (rw f (has_head p.at (ats_of d)), rw (f, q) c.0.on))
+      ⊎_elim (λ (q : e ≡ p.key). let f = first_at p (keys_of d) c.0 s.0 e q in (subst (λ (x : ℕ). has x (p.at ∷ ats_of d) ≡ true) (sym f) (has_head p.at (ats_of d)), rw (f, q) c.0.on))
       (λ t. let r = looked_at d c.1 s.1 e t in (has_tail (looked vs k g e) p.at (ats_of d) r.0, r.1)) (has_cons e p.key (keys_of d) h)
 
   -- and each vertex of a cut is found

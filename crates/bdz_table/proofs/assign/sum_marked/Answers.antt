@@ -2,6 +2,7 @@
 use Rattle.std.proofs.Common.{◌-◌, length, ⊎_elim, arith, rules}
 use Rattle.bdz_table.proofs.Words.{Summing, summing_none, summing_all, summing_inside, summing_insidem, summing_fits, summing_add, summing_pass}
 use Rattle.bdz_table.proofs.assign.sum_marked.Goals as goal
+use Rattle.bdz_table.proofs.assign.sum_marked.Goals.{then-marks-u-ne0, else-marks-u-ne0}
 
 pub loop-j-init : goal.loop-j-init
 loop-j-init c = summing_none _ _ _
@@ -22,7 +23,7 @@ pub overflow_add-s : goal.overflow_add-s
 overflow_add-s c = omega (arith, summing_fits _ _ _ _ c.requires.marked c.requires.reach _ _ c.loop-j.invariant c.loop-j-test.true)
 
 pub loop-j-preserved : goal.loop-j-preserved
-loop-j-preserved c = ⊎_elim (λ w. rw w.2 (summing_add _ _ _ _ c.requires.marked c.requires.reach _ _ c.loop-j.invariant c.loop-j-test.true)) (λ w. rw w.1 (summing_pass _ _ _ _ c.requires.marked c.requires.reach _ _ c.loop-j.invariant c.loop-j-test.true w.0.left)) c.if-marks-u-ne0.branch
+loop-j-preserved c = elim c.if-marks-u-ne0.branch [ then-marks-u-ne0 w ↦ rw w.s-is (summing_add _ _ _ _ c.requires.marked c.requires.reach _ _ c.loop-j.invariant c.loop-j-test.true) | else-marks-u-ne0 w ↦ rw w.s-is (summing_pass _ _ _ _ c.requires.marked c.requires.reach _ _ c.loop-j.invariant c.loop-j-test.true w.if-marks-u-ne0.false) ]
 
 pub returns : goal.returns
 returns c = summing_all _ _ _ _ c.requires.marked c.requires.reach _ _ c.loop-j.invariant c.loop-j-test.false

@@ -152,17 +152,17 @@ returns c =
     let room = room_at Assigned a.keys.now a.modulus a.table.now a.degrees.now a.xors.now a.queue.now a.order a.marks.now [] a.seen.now c.requires.in_bounds p.passed needed.ensures in
     let judged = c.judge_part-verdict in
     let ran = c.work_assigned-ran in
-    let ran_to = rw judged.ensures.0 at ran.ensures.0 in
+    let ran_to = rw judged.ensures.value at ran.ensures.ran_to in
     let n = length a.keys.now in
     let t : needed.result.table ≡ vertices_for Assigned n = ap (λ (x : Needs). x.table) needed.ensures ∙ need_table Assigned n a.modulus in
-    let sound : 0 < ran.result.pairs → values_no a.modulus [] a.values.now ≡ 0 = λ h. verdict_none Assigned a.keys.now (values_no a.modulus [] a.values.now) (sym ran_to.no_is ∙ (ran.ensures.1.pending h).accepted) in
+    let sound : 0 < ran.result.pairs → values_no a.modulus [] a.values.now ≡ 0 = λ h. verdict_none Assigned a.keys.now (values_no a.modulus [] a.values.now) (sym ran_to.no_is ∙ (ran.ensures.sought.pending h).accepted) in
     record {
       to =
           ready_begun Assigned a.keys.now a.modulus _ (values_no a.modulus [] a.values.now) a.order (assigned_table a.keys.now a.values.now a.modulus) a.table.now a.degrees.now a.xors.now a.queue.now a.marks.now [] a.seen.now
           c.requires.in_bounds c.requires.seen_value needed.ensures p.passed refl c.finish.ensures ran_to
-          ran.new.1.1.1.1.1.0 ran.new.1.1.1.1.1.1.0 ran.new.1.1.1.1.1.1.1.0 ran.new.1.1.1.1.1.1.1.1.0 ran.new.1.1.1.1.1.1.1.1.1.0 ran.ensures.1 (length_assigned a.keys.now a.values.now a.modulus c.requires.in_bounds ∙ sym t)
-          ran.auto.1.1.1.1.1.0 ran.auto.1.1.1.1.1.1.0 ran.auto.1.1.1.1.1.1.1.0 ran.auto.1.1.1.1.1.1.1.1.0 ran.auto.1.1.1.1.1.1.1.1.1.0;
-      seen_is = rw (begun_is n _ c.requires.in_bounds c.requires.seen_value, ← needed.ensures) (cleared_part needed.result.seen a.seen.now judged.new.1.1.0 room.seen judged.ensures.1);
+          ran.new.table ran.new.degrees ran.new.xors ran.new.queue ran.new.marks ran.ensures.sought (length_assigned a.keys.now a.values.now a.modulus c.requires.in_bounds ∙ sym t)
+          ran.auto.table ran.auto.degrees ran.auto.xors ran.auto.queue ran.auto.marks;
+      seen_is = rw (begun_is n _ c.requires.in_bounds c.requires.seen_value, ← needed.ensures) (cleared_part needed.result.seen a.seen.now judged.new.seen room.seen judged.ensures.seen_after);
       same = λ h. sym p.same;
       values_limit = λ h. p.limit;
       values_below = λ h. values_below a.modulus [] a.values.now (sound h);

@@ -138,13 +138,13 @@ returns c =
     let n = length a.keys.now in
     let t : needed.result.table ≡ vertices_for Compact n = ap (λ (x : Needs). x.table) needed.ensures ∙ need_table Compact n n in
     let bytes : needed.result.occupancy ≡ occupancy_bytes needed.result.table = ap (λ (x : Needs). x.occupancy) needed.ensures ∙ need_occupancy n n ∙ ap occupancy_bytes (sym t) in
-    let number = number_is Compact a.keys.now n _ 0 a.order (compact_table a.keys.now) a.table.now a.degrees.now a.xors.now a.queue.now a.marks.now a.occupancy.now [] c.requires.in_bounds c.requires.occupancy_value needed.ensures p refl c.finish.ensures ran.ensures.0 in
+    let number = number_is Compact a.keys.now n _ 0 a.order (compact_table a.keys.now) a.table.now a.degrees.now a.xors.now a.queue.now a.marks.now a.occupancy.now [] c.requires.in_bounds c.requires.occupancy_value needed.ensures p refl c.finish.ensures ran.ensures.ran_to in
     record {
       to =
           ready_begun Compact a.keys.now n _ 0 a.order (compact_table a.keys.now) a.table.now a.degrees.now a.xors.now a.queue.now a.marks.now a.occupancy.now []
-          c.requires.in_bounds c.requires.occupancy_value needed.ensures p refl c.finish.ensures ran.ensures.0
-          ran.new.1.1.0 ran.new.1.1.1.1.0 ran.new.1.1.1.1.1.0 ran.new.1.1.1.1.1.1.0 ran.new.1.1.1.1.1.1.1.0 ran.ensures.1.0 (length_compact a.keys.now c.requires.in_bounds ∙ sym t)
-          ran.auto.1.1.0 ran.auto.1.1.1.1.0 ran.auto.1.1.1.1.1.0 ran.auto.1.1.1.1.1.1.0 ran.auto.1.1.1.1.1.1.1.0;
-      occupied = λ h. rw (← bytes) (zeroed_part needed.result.occupancy a.occupancy.now ran.new.1.1.1.0 room.occupancy (ran.ensures.1.1.pending h ∙ ap (λ (k : ℕ). replicate k 0) (sym bytes)));
-      occupancy_done = λ none. rw number (written_part ran.result.no needed.result.occupancy (compact_occupancy a.keys.now) a.occupancy.now ran.new.1.1.1.0 (length_occupied a.keys.now c.requires.in_bounds ∙ ap occupancy_bytes (sym t) ∙ sym bytes) (ran.ensures.1.1.done none));
+          c.requires.in_bounds c.requires.occupancy_value needed.ensures p refl c.finish.ensures ran.ensures.ran_to
+          ran.new.table ran.new.degrees ran.new.xors ran.new.queue ran.new.marks ran.ensures.sought (length_compact a.keys.now c.requires.in_bounds ∙ sym t)
+          ran.auto.table ran.auto.degrees ran.auto.xors ran.auto.queue ran.auto.marks;
+      occupied = λ h. rw (← bytes) (zeroed_part needed.result.occupancy a.occupancy.now ran.new.occupancy room.occupancy (ran.ensures.occupancy_sought.pending h ∙ ap (λ (k : ℕ). replicate k 0) (sym bytes)));
+      occupancy_done = λ none. rw number (written_part ran.result.no needed.result.occupancy (compact_occupancy a.keys.now) a.occupancy.now ran.new.occupancy (length_occupied a.keys.now c.requires.in_bounds ∙ ap occupancy_bytes (sym t) ∙ sym bytes) (ran.ensures.occupancy_sought.done none));
     }

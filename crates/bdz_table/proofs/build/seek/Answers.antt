@@ -18,7 +18,9 @@ returns c =
     let left = c.if-found-ge256.false in
     let zeros = c.zero32.ensures in
     let unmarked = c.zero8.ensures in
-    let seed = seed_found a.kind a.keys.now a.m found.ensures p.count p.is left in record { ran_to = ran_found a.kind a.keys.now a.m found.ensures p.count p.is left; sought_many = record {
+    let seed = seed_found a.kind a.keys.now a.m found.ensures p.count p.is left in record {
+      ran_to = ran_found a.kind a.keys.now a.m found.ensures p.count p.is left;
+      sought_many = record {
         pending = λ some.
             record {
               accepted = refl;
@@ -30,4 +32,5 @@ returns c =
             };
         refused = λ none z. absurd (omega (arith, p.count, none));
         same = λ none. absurd (omega (arith, p.count, none));
-      } }
+      };
+    }

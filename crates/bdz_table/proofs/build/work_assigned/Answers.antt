@@ -34,4 +34,4 @@ pub returns : goal.returns
 returns c =
     let a = c.args in
     let ran = c.seek in
-    record { ran_to = rw c.if-verdict-ne-ACCEPTED.false ran.ensures.0; sought = sought_many ran.ensures.1 (assigned_table a.keys.now a.values.now a.modulus) }
+    record { ran_to = rw c.if-verdict-ne-ACCEPTED.false ran.ensures.ran_to; sought = sought_many ran.ensures.sought_many (assigned_table a.keys.now a.values.now a.modulus) }

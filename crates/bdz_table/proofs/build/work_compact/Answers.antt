@@ -35,4 +35,4 @@ pub returns : goal.returns
 returns c =
     let a = c.args in
     let ran = c.seek-ran in
-    record { ran_to = ran.ensures.0; sought = sought_many ran.ensures.1 (compact_table a.keys.now); occupancy_sought = occupancy_sought ran.ensures.1 c.clear_occupancy.ensures c.requires.occupancy_len }
+    record { ran_to = ran.ensures.ran_to; sought = sought_many ran.ensures.sought_many (compact_table a.keys.now); occupancy_sought = occupancy_sought ran.ensures.sought_many c.clear_occupancy.ensures c.requires.occupancy_len }

@@ -33,14 +33,14 @@ returns-then-not-ok c =
     let l = c.loop-i in
     let a = c.args in
     counted_full _ _ _ _ _ _ l.invariant c.loop-i-test.true
-    (full_of _ _ l.i l.deg l.xor_e c.add_key-ok.new.deg c.add_key-ok.new.xor_e (vertices_at a.kind a.keys.now a.seed a.m l.i c.vertices_of-us.ensures) c.add_key-ok.result (not-true c.add_key-ok.result c.if-not-ok.true) c.add_key-ok.ensures)
+    (full_of _ _ l.i l.deg l.xor_e c.add_key-ok.new.deg c.add_key-ok.new.xor_e (vertices_at a.kind a.keys.now a.seed a.m l.i c.vertices_of-us.ensures) c.add_key-ok.result c.if-not-ok.true c.add_key-ok.ensures)
 
 pub loop-i-preserved : goal.loop-i-preserved
 loop-i-preserved c =
     let l = c.loop-i in
     let a = c.args in
     counted_more _ _ _ _ _ _ l.invariant c.loop-i-test.true _ _ c.add_key-ok.auto.deg c.add_key-ok.auto.xor_e
-    (added_of _ _ _ _ _ _ _ (vertices_at a.kind a.keys.now a.seed a.m l.i c.vertices_of-us.ensures) c.add_key-ok.result (not-false c.add_key-ok.result c.if-not-ok.false) c.add_key-ok.ensures)
+    (added_of _ _ _ _ _ _ _ (vertices_at a.kind a.keys.now a.seed a.m l.i c.vertices_of-us.ensures) c.add_key-ok.result c.if-not-ok.false c.add_key-ok.ensures)
 
 pub shape_of-deg : goal.shape_of-deg
 shape_of-deg c = c.loop-i.invariant.longd ∙ sym c.requires.longd

@@ -2,6 +2,7 @@
 use Rattle.std.proofs.Common.{◌-◌, length, ⊎_elim, arith, rules}
 use Rattle.bdz_table.proofs.Counting.{Filling, filling_none, filling_all, filling_skip, filling_push, filling_room}
 use Rattle.bdz_table.proofs.peel.fill_queue.Goals as goal
+use Rattle.bdz_table.proofs.peel.fill_queue.Goals.{then-deg-v-eq1, else-deg-v-eq1}
 
 pub loop-v-init : goal.loop-v-init
 loop-v-init c = filling_none _ _
@@ -16,7 +17,7 @@ pub overflow_add-n : goal.overflow_add-n
 overflow_add-n c = omega (arith, filling_room _ _ _ _ _ c.loop-v.invariant c.loop-v-test.true c.requires.0)
 
 pub loop-v-preserved : goal.loop-v-preserved
-loop-v-preserved c = ⊎_elim (λ w. rw (w.1, w.2) (filling_push _ _ _ _ _ c.loop-v.invariant c.loop-v-test.true c.requires.0 w.0.taken)) (λ w. rw (w.1, w.2) (filling_skip _ _ _ _ _ c.loop-v.invariant c.loop-v-test.true w.0.left)) c.if-deg-v-eq1.branch
+loop-v-preserved c = elim c.if-deg-v-eq1.branch [ then-deg-v-eq1 w ↦ rw (w.q-is, w.n-is) (filling_push _ _ _ _ _ c.loop-v.invariant c.loop-v-test.true c.requires.0 w.if-deg-v-eq1.true) | else-deg-v-eq1 w ↦ rw (w.q-is, w.n-is) (filling_skip _ _ _ _ _ c.loop-v.invariant c.loop-v-test.true w.if-deg-v-eq1.false) ]
 
 pub shape_of-q : goal.shape_of-q
 shape_of-q c = c.loop-v.invariant.long

@@ -2,6 +2,7 @@
 use Rattle.std.proofs.Common.{◌-◌, length, ⊎_elim, arith, rules}
 use Rattle.bdz_table.proofs.Leaving.{Leaving, leaving_none, leaving_all, leaving_inside, leaving_insidex, leaving_some, leaving_skip, leaving-push, leaving_room}
 use Rattle.bdz_table.proofs.peel.leave.Goals as goal
+use Rattle.bdz_table.proofs.peel.leave.Goals.{then-d-eq1, else-d-eq1}
 
 pub loop-j-init : goal.loop-j-init
 loop-j-init c = leaving_none _ _ _ _ _ _
@@ -40,7 +41,7 @@ pub overflow_add-n : goal.overflow_add-n
 overflow_add-n c = omega (arith, leaving_room _ _ _ _ _ _ c.requires _ _ _ _ _ c.loop-j.invariant c.loop-j-test.true c.if-d-eq1.true)
 
 pub loop-j-preserved : goal.loop-j-preserved
-loop-j-preserved c = ⊎_elim (λ w. rw (w.1, w.2) (leaving-push _ _ _ _ _ _ c.requires _ _ _ _ _ c.loop-j.invariant c.loop-j-test.true w.0.taken)) (λ w. rw (w.1, w.2) (leaving_skip _ _ _ _ _ _ c.requires _ _ _ _ _ c.loop-j.invariant c.loop-j-test.true w.0.left)) c.if-d-eq1.branch
+loop-j-preserved c = elim c.if-d-eq1.branch [ then-d-eq1 w ↦ rw (w.q-is, w.n-is) (leaving-push _ _ _ _ _ _ c.requires _ _ _ _ _ c.loop-j.invariant c.loop-j-test.true w.if-d-eq1.true) | else-d-eq1 w ↦ rw (w.q-is, w.n-is) (leaving_skip _ _ _ _ _ _ c.requires _ _ _ _ _ c.loop-j.invariant c.loop-j-test.true w.if-d-eq1.false) ]
 
 pub shape_of-deg : goal.shape_of-deg
 shape_of-deg c = c.loop-j.invariant.deg.long

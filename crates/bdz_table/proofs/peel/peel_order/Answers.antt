@@ -11,7 +11,7 @@ returns-then-not-ok c =
     let vs = graph_of c.args.kind c.args.keys.now c.args.seed c.args.m in
     let n = length c.args.keys.now in
     let k = c.count_keys-ok in
-    answer_crowded _ _ _ _ _ (counted_no k.result vs n k.new.1.1.1.1.0 k.new.1.1.1.1.1.0 (not-true k.result c.if-not-ok.true) k.ensures)
+    answer_crowded _ _ _ _ _ (counted_no k.result vs n k.new.deg k.new.xor_e c.if-not-ok.true k.ensures)
 
 pub peel_turns-c-requires : goal.peel_turns-c-requires
 peel_turns-c-requires c =
@@ -19,8 +19,8 @@ peel_turns-c-requires c =
     let n = length c.args.keys.now in
     let k = c.count_keys-ok in
     let f = c.fill_queue-qn in
-    turnable _ _ _ _ _ _ _ _ _ _ c.requires k.auto.1.1.1.1.0 k.auto.1.1.1.1.1.0 f.auto.1.0
-    (counted_yes k.result vs n k.new.1.1.1.1.0 k.new.1.1.1.1.1.0 (not-false k.result c.if-not-ok.false) k.ensures) f.ensures
+    turnable _ _ _ _ _ _ _ _ _ _ c.requires k.auto.deg k.auto.xor_e f.auto.q
+    (counted_yes k.result vs n k.new.deg k.new.xor_e c.if-not-ok.false k.ensures) f.ensures
 
 pub returns-then-c-keys : goal.returns-then-c-keys
 returns-then-c-keys c =
@@ -28,8 +28,8 @@ returns-then-c-keys c =
     let n = length c.args.keys.now in
     let G = graph_of_lem c.args.kind c.args.keys.now c.args.seed n c.args.m c.requires.clear.sizes.some in
     let k = c.count_keys-ok in
-    answer_works _ _ _ _ _ G _ c.peel_turns-c.ensures k.new.1.1.1.1.0 k.new.1.1.1.1.1.0
-    (counted_yes k.result vs n k.new.1.1.1.1.0 k.new.1.1.1.1.1.0 (not-false k.result c.if-not-ok.false) k.ensures) (λ v. omega (arith, c.slice_known-4-1.given v)) c.if-c-keys.true
+    answer_works _ _ _ _ _ G _ c.peel_turns-c.ensures k.new.deg k.new.xor_e
+    (counted_yes k.result vs n k.new.deg k.new.xor_e c.if-not-ok.false k.ensures) (λ v. omega (arith, c.slice_known-4-1.given v)) c.if-c-keys.true
 
 pub returns : goal.returns
 returns c =

@@ -5,6 +5,7 @@ use Rattle.bdz_table.specs.Keys.{graph_of}
 use Rattle.bdz_table.proofs.Counting.{graph_of_lem}
 use Rattle.bdz_table.proofs.Turning.{Turning, turning_none, turning_take, turning_skip, turning_all, next_inside, key_below, leaves, order_room}
 use Rattle.bdz_table.proofs.peel.peel_turns.Goals as goal
+use Rattle.bdz_table.proofs.peel.peel_turns.Goals.{then-deg-v-eq1, else-deg-v-eq1}
 
 pub loop-qi-init : goal.loop-qi-init
 loop-qi-init c =
@@ -87,10 +88,15 @@ loop-qi-preserved c =
     let G = graph_of_lem c.args.kind c.args.keys.now c.args.seed (length c.args.keys.now) c.args.m c.requires.sizes.some in
     let l = c.loop-qi in
     let test = c.loop-qi-test.true in
-    ⊎_elim
-    (λ w. rw (w.12, w.13, w.14, w.15, w.16) (turning_take _ _ _ G _ _ _ _ _ _ l.invariant test w.0.taken _ _ _ _ w.5.kept.1.1.1.1.1.0 w.5.kept.1.1.1.1.1.1.0 w.5.kept.1.1.1.1.1.1.1.0 w.5.ensures))
-    (λ w. rw (w.1, w.2, w.3, w.4, w.5) (turning_skip _ _ _ G _ _ _ _ _ _ l.invariant test w.0.left))
-    c.if-deg-v-eq1.branch
+    elim c.if-deg-v-eq1.branch [
+      | then-deg-v-eq1 w ↦
+          let cut = w.cut_key-qn in
+          rw (w.deg-is, w.xor_e-is, w.q-is, w.qn-is, w.c-is)
+          (turning_take _ _ _ G _ _ _ _ _ _ l.invariant test w.if-deg-v-eq1.true _ _ _ _ cut.auto.deg cut.auto.xor_e cut.auto.q cut.ensures)
+      | else-deg-v-eq1 w ↦
+          rw (w.deg-is, w.xor_e-is, w.q-is, w.qn-is, w.c-is)
+          (turning_skip _ _ _ G _ _ _ _ _ _ l.invariant test w.if-deg-v-eq1.false)
+    ]
 
 pub shape_of-deg : goal.shape_of-deg
 shape_of-deg c = c.loop-qi.invariant.longd ∙ sym c.requires.longd
