@@ -1,5 +1,5 @@
 -- Summing words, and assigning them from the newest cut to the oldest. Assumes nothing.
-use Rattle.std.proofs.Common.{◌≡◌, ℕ, zero, ◌+◌, ◌-◌, ◌*◌, ◌%◌, ◌<◌, ◌≤◌, true, eqb, List, [], ◌∷◌, ◌++◌, length, get_or, take, set, sym, refl, ap, ◌∙◌, ap₂, ⊎_elim, add-zero, mod-lt, zero-add, add-one, arith, length-set, take_all, get_or-set_other, take-suc, get_or-set_same, eqb-true}
+use Rattle.std.proofs.Common.{◌≡◌, ℕ, ◌+◌, ◌-◌, ◌*◌, ◌%◌, ◌<◌, ◌≤◌, true, eqb, List, [], ◌∷◌, ◌++◌, length, get_or, take, set, sym, refl, ap, ◌∙◌, ap₂, ⊎_elim, add-zero, mod-lt, zero-add, add-one, arith, length-set, take_all, get_or-set_other, take-suc, get_or-set_same, eqb-true}
 use lib.ListN.{get_or-append}
 use borrow.Author.Tests.{eqb-false}
 use Rattle.bdz_base.specs.Verts.{verts_of}

@@ -1,5 +1,5 @@
 -- The occupancy: one bit a vertex. Assumes nothing.
-use Rattle.std.specs.Prelude.{ℕ, ◌/◌, ◌%◌, ◌^◌, List, set, bit_or, slice_index, slice_set}
+use Rattle.std.specs.Prelude.{ℕ, ◌/◌, ◌%◌, ◌^◌, List, bit_or, slice_index, slice_set}
 use Rattle.bdz_base.specs.Buffer.{tab}
 use Rattle.bdz_base.specs.Pack.{pack_of}
 use Rattle.bdz_table.specs.Graph.{has, only_if}

@@ -1,5 +1,5 @@
 -- What the thin functions over the lent slice of pairs promise one another. No public promise cites it. Assumes nothing.
-use Rattle.std.specs.Prelude.{◌≡◌, ℕ, zero, suc, ◌<◌, ◌≤◌, List, [], ◌∷◌, length, get_or, take, drop, set, slice_index, slice_index_or, slice_set}
+use Rattle.std.specs.Prelude.{◌≡◌, ℕ, zero, suc, ◌<◌, ◌≤◌, List, [], ◌∷◌, length, get_or, take, drop, slice_index, slice_index_or, slice_set}
 use Rattle.bdz_base.specs.Sizes.{occupancy_bytes}
 use Rattle.bdz_base.specs.declared.verts.Kind.{Kind}
 use Rattle.bdz_table.specs.Assign.{assign}

@@ -1,5 +1,5 @@
 -- `bdz_table::assign::assign_one` meets its contract. Assumes nothing.
-use Rattle.std.proofs.Common.{ap, ◌∙◌, mod-lt, arith, rules}
+use Rattle.std.proofs.Common.{ap, ◌∙◌, mod-lt, arith}
 use Rattle.bdz_table.specs.Assign.{sum_at}
 use Rattle.bdz_table.proofs.Words.{reach_of, word_of}
 use Rattle.bdz_table.proofs.assign.assign_one.Goals as goal

@@ -1,5 +1,5 @@
 -- `bdz_table::assign::part_of` meets its contract. Assumes nothing.
-use Rattle.std.proofs.Common.{arith, rules, le-ltb, lt-ltb}
+use Rattle.std.proofs.Common.{arith, le-ltb, lt-ltb}
 use Rattle.bdz_table.specs.Assign.{part_of}
 use Rattle.bdz_table.proofs.assign.part_of.Goals as goal
 

@@ -1,6 +1,6 @@
 -- `bdz_table::assign::sum_marked` meets its contract. Assumes nothing.
-use Rattle.std.proofs.Common.{◌-◌, length, ⊎_elim, arith, rules}
-use Rattle.bdz_table.proofs.Words.{Summing, summing_none, summing_all, summing_inside, summing_insidem, summing_fits, summing_add, summing_pass}
+use Rattle.std.proofs.Common.{arith}
+use Rattle.bdz_table.proofs.Words.{summing_none, summing_all, summing_inside, summing_insidem, summing_fits, summing_add, summing_pass}
 use Rattle.bdz_table.proofs.assign.sum_marked.Goals as goal
 use Rattle.bdz_table.proofs.assign.sum_marked.Goals.{then-marks-u-ne0, else-marks-u-ne0}
 

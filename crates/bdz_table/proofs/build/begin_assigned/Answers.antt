@@ -1,5 +1,5 @@
 -- `bdz_table::build::begin_assigned` meets its contract. Assumes nothing.
-use Rattle.std.proofs.Common.{◌≡◌, ◌<◌, [], length, sym, refl, ap, ◌∙◌, arith, length-take-le, rules}
+use Rattle.std.proofs.Common.{◌≡◌, ◌<◌, [], length, sym, refl, ap, ◌∙◌, arith, length-take-le}
 use Rattle.bdz_base.specs.declared.verts.Kind.TheVariants.{Assigned}
 use Rattle.bdz_table.specs.Build.{vertices_for, assigned_table, lengths_with}
 use Rattle.bdz_table.specs.Values.{values_no}

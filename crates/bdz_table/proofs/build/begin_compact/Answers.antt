@@ -1,5 +1,5 @@
 -- `bdz_table::build::begin_compact` meets its contract. Assumes nothing.
-use Rattle.std.proofs.Common.{◌≡◌, ℕ, [], length, replicate, sym, refl, ap, ◌∙◌, arith, length-take-le, rules}
+use Rattle.std.proofs.Common.{◌≡◌, ℕ, [], length, replicate, sym, refl, ap, ◌∙◌, arith, length-take-le}
 use Rattle.bdz_base.specs.Sizes.{occupancy_bytes}
 use Rattle.bdz_base.specs.declared.verts.Kind.TheVariants.{Compact}
 use Rattle.bdz_table.specs.Build.{vertices_for, compact_table, compact_occupancy, lengths_with}

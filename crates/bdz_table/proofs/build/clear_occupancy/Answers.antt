@@ -1,5 +1,5 @@
 -- `bdz_table::build::clear_occupancy` meets its contract. Assumes nothing.
-use Rattle.std.proofs.Common.{rules, eq-eqb, ne_eqb}
+use Rattle.std.proofs.Common.{eq-eqb, ne_eqb}
 use Rattle.bdz_table.proofs.build.clear_occupancy.Goals as goal
 
 pub returns-then-no-eq-ACCEPTED : goal.returns-then-no-eq-ACCEPTED

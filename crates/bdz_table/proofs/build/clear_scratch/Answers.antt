@@ -1,5 +1,5 @@
 -- `bdz_table::build::clear_scratch` meets its contract. Assumes nothing.
-use Rattle.std.proofs.Common.{sym, length-take-le, rules}
+use Rattle.std.proofs.Common.{sym, length-take-le}
 use Rattle.bdz_table.proofs.Begun.{cleared_part}
 use Rattle.bdz_table.proofs.build.clear_scratch.Goals as goal
 

@@ -1,5 +1,5 @@
 -- `bdz_table::build::finish` meets its contract. Assumes nothing.
-use Rattle.std.proofs.Common.{rules, eq-eqb, ne_eqb}
+use Rattle.std.proofs.Common.{eq-eqb, ne_eqb}
 use Rattle.bdz_table.proofs.build.finish.Goals as goal
 
 pub returns-then-no-ne0 : goal.returns-then-no-ne0

@@ -1,5 +1,5 @@
 -- `bdz_table::build::judge_part` meets its contract. Assumes nothing.
-use Rattle.std.proofs.Common.{ℕ, replicate, ap, ◌∙◌, rules}
+use Rattle.std.proofs.Common.{ℕ, replicate, ap, ◌∙◌}
 use Rattle.bdz_table.proofs.build.judge_part.Goals as goal
 
 pub judge_values-verdict-requires : goal.judge_values-verdict-requires

@@ -1,5 +1,5 @@
 -- `bdz_table::build::ready_assigned` meets its contract. Assumes nothing.
-use Rattle.std.proofs.Common.{◌≡◌, false, eqb, [], length, sym, refl, ap, ◌∙◌, arith, rules, ne_eqb}
+use Rattle.std.proofs.Common.{◌≡◌, false, eqb, [], length, sym, refl, ap, ◌∙◌, arith, ne_eqb}
 use Rattle.bdz_base.specs.declared.verts.Kind.TheVariants.{Assigned}
 use Rattle.bdz_table.specs.Build.{needs_of, assigned_early, refused_build, assigned_table, lengths_with}
 use Rattle.bdz_table.specs.Values.{values_no}

@@ -1,5 +1,5 @@
 -- `bdz_table::build::ready_compact` meets its contract. Assumes nothing.
-use Rattle.std.proofs.Common.{◌≡◌, false, eqb, [], length, sym, ap, ◌∙◌, arith, rules, ne_eqb}
+use Rattle.std.proofs.Common.{◌≡◌, false, eqb, [], length, sym, ap, ◌∙◌, arith, ne_eqb}
 use Rattle.bdz_base.specs.declared.verts.Kind.TheVariants.{Compact}
 use Rattle.bdz_table.specs.Build.{needs_of, compact_early, refused_build, compact_table, lengths_with}
 use Rattle.bdz_table.proofs.Begun.{refused_early, built_empty, empty_compact, occupied_refused, occupied_empty}

@@ -1,5 +1,5 @@
 -- `bdz_table::build::seek` meets its contract. Assumes nothing.
-use Rattle.std.proofs.Common.{ℕ, replicate, refl, ap, ◌∙◌, arith, rules}
+use Rattle.std.proofs.Common.{ℕ, replicate, refl, ap, ◌∙◌, arith}
 use Rattle.bdz_table.proofs.Ordering.{order_left}
 use Rattle.bdz_table.proofs.Runs.{ran_stuck, seed_found, ran_found}
 use Rattle.bdz_table.proofs.build.seek.Goals as goal

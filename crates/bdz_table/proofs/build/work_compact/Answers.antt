@@ -1,5 +1,5 @@
 -- `bdz_table::build::work_compact` meets its contract. Assumes nothing.
-use Rattle.std.proofs.Common.{◌≡◌, length, sym, refl, ◌∙◌, arith, rules}
+use Rattle.std.proofs.Common.{◌≡◌, length, sym, refl, ◌∙◌, arith}
 use Rattle.bdz_base.specs.declared.verts.Kind.TheVariants.{Compact}
 use Rattle.bdz_table.specs.Build.{vertices_for, compact_table}
 use Rattle.bdz_table.proofs.NeedLaws.{vertices_one}

@@ -1,5 +1,5 @@
 -- `bdz_table::lookup::answer_all` meets its contract. Assumes nothing.
-use Rattle.std.proofs.Common.{◌≡◌, length, arith, rules}
+use Rattle.std.proofs.Common.{◌≡◌, length, arith}
 use Rattle.bdz_table.proofs.Passed.{answers_fit, fits, room_assigned, room_compact, answers_none, answers_few, answers_assigned, answers_compact}
 use Rattle.bdz_table.proofs.lookup.answer_all.Goals as goal
 

@@ -1,6 +1,6 @@
 -- `bdz_table::lookup::assigned_all` meets its contract. The loop's invariant: i answers stand in out. Assumes nothing.
-use Rattle.std.proofs.Common.{◌-◌, length, get_or, arith, rules}
-use Rattle.bdz_base.proofs.Buffers.{Filled, filled_none, filled_more, filled_all}
+use Rattle.std.proofs.Common.{length, get_or, arith}
+use Rattle.bdz_base.proofs.Buffers.{filled_none, filled_more, filled_all}
 use Rattle.bdz_table.specs.Lookup.{assigned_answer}
 use Rattle.bdz_table.proofs.lookup.assigned_all.Goals as goal
 

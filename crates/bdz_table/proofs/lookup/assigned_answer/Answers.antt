@@ -1,5 +1,5 @@
 -- `bdz_table::lookup::assigned_answer` meets its contract. Assumes nothing.
-use Rattle.std.proofs.Common.{length, arith, rules}
+use Rattle.std.proofs.Common.{length, arith}
 use Rattle.bdz_base.specs.declared.verts.Kind.TheVariants.{Assigned}
 use Rattle.bdz_table.specs.Lookup.{assigned_answer}
 use Rattle.bdz_table.proofs.Passed.{words_there}

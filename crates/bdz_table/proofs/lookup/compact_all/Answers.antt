@@ -1,6 +1,6 @@
 -- `bdz_table::lookup::compact_all` meets its contract. The loop's invariant: i answers stand in out. Assumes nothing.
-use Rattle.std.proofs.Common.{◌-◌, length, get_or, arith, rules}
-use Rattle.bdz_base.proofs.Buffers.{Filled, filled_none, filled_more, filled_all}
+use Rattle.std.proofs.Common.{length, get_or, arith}
+use Rattle.bdz_base.proofs.Buffers.{filled_none, filled_more, filled_all}
 use Rattle.bdz_table.specs.Lookup.{compact_answer}
 use Rattle.bdz_table.proofs.lookup.compact_all.Goals as goal
 

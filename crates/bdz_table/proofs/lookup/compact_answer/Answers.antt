@@ -1,5 +1,5 @@
 -- `bdz_table::lookup::compact_answer` meets its contract. Assumes nothing.
-use Rattle.std.proofs.Common.{length, arith, rules}
+use Rattle.std.proofs.Common.{length, arith}
 use Rattle.bdz_base.proofs.VertexLaws.{vertices_below}
 use Rattle.bdz_base.specs.declared.verts.Kind.TheVariants.{Compact}
 use Rattle.bdz_table.specs.Lookup.{compact_answer}

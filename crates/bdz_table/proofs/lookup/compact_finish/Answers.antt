@@ -1,5 +1,5 @@
 -- `bdz_table::lookup::compact_finish` meets its contract. Assumes nothing.
-use Rattle.std.proofs.Common.{arith, rules}
+use Rattle.std.proofs.Common.{arith}
 use Rattle.bdz_table.specs.Keys.{listed}
 use Rattle.bdz_table.specs.Lookup.{picked_of, compact_from}
 use Rattle.bdz_table.proofs.Passed.{ranked_inside, picked_below}

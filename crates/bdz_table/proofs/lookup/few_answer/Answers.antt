@@ -1,5 +1,5 @@
 -- `bdz_table::lookup::few_answer` meets its contract. Assumes nothing.
-use Rattle.std.proofs.Common.{rules, eq-eqb, ne_eqb}
+use Rattle.std.proofs.Common.{eq-eqb, ne_eqb}
 use Rattle.bdz_table.specs.Lookup.{few_answer}
 use Rattle.bdz_table.proofs.lookup.few_answer.Goals as goal
 

@@ -1,5 +1,5 @@
 -- `bdz_table::lookup::finish_index` meets its contract. Assumes nothing.
-use Rattle.std.proofs.Common.{◌≡◌, ◌+◌, ◌%◌, ◌^◌, sym, ◌∙◌, arith, rules, le-ltb, lt-ltb, ne_eqb}
+use Rattle.std.proofs.Common.{◌≡◌, ◌+◌, ◌%◌, ◌^◌, sym, ◌∙◌, arith, le-ltb, lt-ltb, ne_eqb}
 use native.Mathlib.Nat.{mod-add-mod}
 use Rattle.bdz_table.specs.Lookup.{finished_of, finish_of}
 use Rattle.bdz_table.proofs.lookup.finish_index.Goals as goal

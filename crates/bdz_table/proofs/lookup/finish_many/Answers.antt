@@ -1,5 +1,5 @@
 -- `bdz_table::lookup::finish_many` meets its contract. Assumes nothing.
-use Rattle.std.proofs.Common.{length, sym, ap, arith, rules}
+use Rattle.std.proofs.Common.{length, sym, ap, arith}
 use Rattle.bdz_base.specs.declared.verts.Kind.{Kind}
 use Rattle.bdz_base.specs.declared.verts.Kind.TheVariants.{Compact}
 use Rattle.bdz_base.proofs.VertexLaws.{vertices_below}

@@ -1,5 +1,5 @@
 -- `bdz_table::lookup::first_word` meets its contract. Assumes nothing.
-use Rattle.std.proofs.Common.{sym, arith, rules}
+use Rattle.std.proofs.Common.{sym, arith}
 use lib.ListN.{get_or-eq_default}
 use Rattle.bdz_table.proofs.lookup.first_word.Goals as goal
 

@@ -1,5 +1,5 @@
 -- `bdz_table::lookup::index_batch` meets its contract. Assumes nothing.
-use Rattle.std.proofs.Common.{sym, ◌∙◌, rules, ne_eqb}
+use Rattle.std.proofs.Common.{sym, ◌∙◌, ne_eqb}
 use Rattle.bdz_table.proofs.lookup.index_batch.Goals as goal
 
 pub returns-then-no-ne-ACCEPTED : goal.returns-then-no-ne-ACCEPTED

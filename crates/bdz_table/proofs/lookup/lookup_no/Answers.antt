@@ -1,5 +1,5 @@
 -- `bdz_table::lookup::lookup_no` meets its contract. Assumes nothing.
-use Rattle.std.proofs.Common.{rules, le-ltb, lt-ltb, eq-eqb, ne_eqb}
+use Rattle.std.proofs.Common.{le-ltb, lt-ltb, eq-eqb, ne_eqb}
 use Rattle.bdz_table.specs.Lookup.{lookup_no}
 use Rattle.bdz_table.proofs.lookup.lookup_no.Goals as goal
 

@@ -1,5 +1,5 @@
 -- `bdz_table::lookup::room_no` meets its contract. Assumes nothing.
-use Rattle.std.proofs.Common.{rules, le-ltb, lt-ltb}
+use Rattle.std.proofs.Common.{le-ltb, lt-ltb}
 use Rattle.bdz_table.specs.Lookup.{room_no}
 use Rattle.bdz_table.proofs.lookup.room_no.Goals as goal
 

@@ -1,6 +1,6 @@
 -- `bdz_table::lookup::same_all` meets its contract. The loop's invariant: i answers stand in out. Assumes nothing.
-use Rattle.std.proofs.Common.{◌-◌, refl, arith, rules}
-use Rattle.bdz_base.proofs.Buffers.{Filled, filled_none, filled_more, filled_all}
+use Rattle.std.proofs.Common.{refl, arith}
+use Rattle.bdz_base.proofs.Buffers.{filled_none, filled_more, filled_all}
 use Rattle.bdz_table.proofs.lookup.same_all.Goals as goal
 
 pub loop-i-init : goal.loop-i-init

@@ -1,5 +1,5 @@
 -- `bdz_table::lookup::sum_words` meets its contract. Assumes nothing.
-use Rattle.std.proofs.Common.{◌+◌, ◌^◌, get_or, ◌∙◌, add-zero, add_assoc, rules}
+use Rattle.std.proofs.Common.{◌+◌, ◌^◌, get_or, ◌∙◌, add-zero, add_assoc}
 use native.Mathlib.Nat.{mod-add-mod}
 use Rattle.bdz_table.specs.Lookup.{sum_of}
 use Rattle.bdz_table.specs.Assign.{sum_at}

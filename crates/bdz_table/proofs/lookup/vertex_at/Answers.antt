@@ -1,5 +1,5 @@
 -- `bdz_table::lookup::vertex_at` meets its contract. Assumes nothing.
-use Rattle.std.proofs.Common.{◌≡◌, arith, rules}
+use Rattle.std.proofs.Common.{◌≡◌, arith}
 use Rattle.bdz_table.proofs.lookup.vertex_at.Goals as goal
 
 pub returns : goal.returns

@@ -1,5 +1,5 @@
 -- `bdz_table::needs::early_compact` meets its contract. Assumes nothing.
-use Rattle.std.proofs.Common.{◌≡◌, true, false, sym, ◌∙◌, rules, le-ltb, lt-ltb, eq-eqb, ne_eqb}
+use Rattle.std.proofs.Common.{◌≡◌, true, false, sym, ◌∙◌, le-ltb, lt-ltb, eq-eqb, ne_eqb}
 use Rattle.bdz_base.specs.declared.verts.Kind.TheVariants.{Compact}
 use Rattle.bdz_table.specs.Build.{needs_of, lacks_room, compact_early}
 use Rattle.bdz_table.proofs.needs.early_compact.Goals as goal

@@ -1,6 +1,5 @@
 -- `bdz_table::needs::lacks_room` meets its contract. Assumes nothing.
 use Rattle.bdz_table.specs.Build.{lacks_room}
-use Rattle.std.proofs.Common.{rules}
 use Rattle.bdz_table.proofs.needs.lacks_room.Goals as goal
 
 pub returns : goal.returns

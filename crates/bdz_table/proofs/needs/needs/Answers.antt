@@ -1,6 +1,6 @@
 -- `bdz_table::needs::needs` meets its contract. Assumes nothing.
 -- `bdz_table::needs::needs` meets its contract. Assumes nothing.
-use Rattle.std.proofs.Common.{arith, rules}
+use Rattle.std.proofs.Common.{arith}
 use Rattle.bdz_table.proofs.NeedLaws.{vertices_wide}
 use Rattle.bdz_table.specs.Build.{needs_of}
 use Rattle.bdz_table.proofs.needs.needs.Goals as goal

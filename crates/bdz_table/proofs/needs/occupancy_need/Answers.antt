@@ -1,5 +1,4 @@
 -- `bdz_table::needs::occupancy_need` meets its contract. Assumes nothing.
-use Rattle.std.proofs.Common.{rules}
 use Rattle.bdz_table.proofs.needs.occupancy_need.Goals as goal
 
 pub returns-in-Compact : goal.returns-in-Compact

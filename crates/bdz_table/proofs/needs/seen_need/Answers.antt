@@ -1,7 +1,7 @@
 -- `bdz_table::needs::seen_need` meets its contract. Assumes nothing.
 -- `bdz_table::needs::seen_need` meets its contract. Assumes nothing.
 use Rattle.bdz_table.proofs.NeedLaws.{seen_none}
-use Rattle.std.proofs.Common.{rules, ne_eqb}
+use Rattle.std.proofs.Common.{ne_eqb}
 use Rattle.bdz_table.proofs.needs.seen_need.Goals as goal
 
 pub returns-then-n-eq0 : goal.returns-then-n-eq0

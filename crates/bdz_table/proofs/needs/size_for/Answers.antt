@@ -1,5 +1,4 @@
 -- `bdz_table::needs::size_for` meets its contract. Assumes nothing.
-use Rattle.std.proofs.Common.{rules}
 use Rattle.bdz_table.proofs.needs.size_for.Goals as goal
 
 pub returns-in-Assigned : goal.returns-in-Assigned

@@ -1,5 +1,5 @@
 -- `bdz_table::needs::vertices_for` meets its contract. Assumes nothing.
-use Rattle.std.proofs.Common.{rules, eq-eqb, ne_eqb}
+use Rattle.std.proofs.Common.{eq-eqb, ne_eqb}
 use Rattle.bdz_table.specs.Build.{vertices_for}
 use Rattle.bdz_table.proofs.needs.vertices_for.Goals as goal
 

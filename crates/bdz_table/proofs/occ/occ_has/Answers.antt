@@ -1,5 +1,4 @@
 -- `bdz_table::occ::occ_has` meets its contract. Assumes nothing.
-use Rattle.std.proofs.Common.{rules}
 use Rattle.bdz_table.proofs.Bits.{bit_read}
 use Rattle.bdz_table.proofs.occ.occ_has.Goals as goal
 

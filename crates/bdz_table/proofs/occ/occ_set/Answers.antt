@@ -1,5 +1,5 @@
 -- `bdz_table::occ::occ_set` meets its contract. Assumes nothing.
-use Rattle.std.proofs.Common.{◌%◌, arith, rules}
+use Rattle.std.proofs.Common.{◌%◌, arith}
 use Rattle.bdz_table.specs.Occupancy.{with_bit}
 use Rattle.bdz_table.proofs.Bits.{one_moved}
 use Rattle.bdz_table.proofs.occ.occ_set.Goals as goal

@@ -13,7 +13,7 @@ loop-i-preserved c =
     let pair = c.compact_pair in
     let before = rw e at c.loop-i.invariant in (
       pairing_next Compact a.keys.now a.seed a.n a.m 3 (λ p. part_of a.m p.at) a.order.now a.marks.now a.g.now c.requires.0
-      before.0 c.pair_at-p.ensures pair.auto.marks pair.auto.g pair.ensures.0,
+          before.0 c.pair_at-p.ensures pair.auto.marks pair.auto.g pair.ensures.0,
       setting_next a.n a.m a.order.now a.occ.now before.1 c.pair_at-p.ensures pair.auto.occ pair.ensures.1,
     )
 

@@ -1,5 +1,5 @@
 -- `bdz_table::pairs::assign_pair` meets its contract. Assumes nothing.
-use Rattle.std.proofs.Common.{sym, length-take-le, rules}
+use Rattle.std.proofs.Common.{sym, length-take-le}
 use Rattle.bdz_base.specs.declared.verts.Kind.TheVariants.{Assigned}
 use Rattle.bdz_table.proofs.Pairing.{pair_word}
 use Rattle.bdz_table.proofs.pairs.assign_pair.Goals as goal

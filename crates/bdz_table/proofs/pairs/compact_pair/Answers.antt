@@ -1,5 +1,5 @@
 -- `bdz_table::pairs::compact_pair` meets its contract. Assumes nothing.
-use Rattle.std.proofs.Common.{sym, arith, length-take-le, rules}
+use Rattle.std.proofs.Common.{sym, arith, length-take-le}
 use Rattle.bdz_base.specs.declared.verts.Kind.TheVariants.{Compact}
 use Rattle.bdz_table.proofs.Pairing.{pair_word, pair_bit, pair_occupied}
 use Rattle.bdz_table.proofs.pairs.compact_pair.Goals as goal

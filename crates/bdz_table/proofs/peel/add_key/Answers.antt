@@ -1,6 +1,6 @@
 -- `bdz_table::peel::add_key` meets its contract. Assumes nothing.
-use Rattle.std.proofs.Common.{◌-◌, length, get_or, arith, rules}
-use Rattle.bdz_table.proofs.AddKey.{Partly, partly_none, partly_all, partly_full, partly_more, at_inside, at_insidex}
+use Rattle.std.proofs.Common.{get_or, arith}
+use Rattle.bdz_table.proofs.AddKey.{partly_none, partly_all, partly_full, partly_more, at_inside, at_insidex}
 use Rattle.bdz_table.proofs.peel.add_key.Goals as goal
 
 pub loop-j-init : goal.loop-j-init

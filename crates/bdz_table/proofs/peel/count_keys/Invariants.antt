@@ -1,8 +1,7 @@
 -- `bdz_table::peel::count_keys` meets its contract. The loop's invariant: the tables are those of the first i keys. Assumes nothing.
-use Rattle.bdz_table.proofs.Counting.{Counted, counted_none, counted_places, counted_full, counted_more, counted_all, graph_of_lem, added_of, full_of, vertices_at}
+use Rattle.bdz_table.proofs.Counting.{Counted}
 use Rattle.bdz_table.specs.Keys.{graph_of}
-use Rattle.std.proofs.Common.{◌-◌, length, sym, ◌∙◌, rules}
-use borrow.Author.Tests.{not-true, not-false}
+use Rattle.std.proofs.Common.{◌-◌, length}
 use Rattle.bdz_table.proofs.peel.count_keys.Given as goal
 
 abbrev pub invariant-loop-i : goal.invariant-loop-i

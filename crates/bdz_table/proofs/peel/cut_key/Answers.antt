@@ -1,6 +1,5 @@
 -- `bdz_table::peel::cut_key` meets its contract. Assumes nothing.
 use Rattle.bdz_table.proofs.Counting.{vertices_at}
-use Rattle.std.proofs.Common.{rules}
 use Rattle.bdz_table.proofs.peel.cut_key.Goals as goal
 
 pub leave-requires : goal.leave-requires

@@ -1,6 +1,6 @@
 -- `bdz_table::peel::fill_queue` meets its contract. Assumes nothing.
-use Rattle.std.proofs.Common.{◌-◌, length, ⊎_elim, arith, rules}
-use Rattle.bdz_table.proofs.Counting.{Filling, filling_none, filling_all, filling_skip, filling_push, filling_room}
+use Rattle.std.proofs.Common.{arith}
+use Rattle.bdz_table.proofs.Counting.{filling_none, filling_all, filling_skip, filling_push, filling_room}
 use Rattle.bdz_table.proofs.peel.fill_queue.Goals as goal
 use Rattle.bdz_table.proofs.peel.fill_queue.Goals.{then-deg-v-eq1, else-deg-v-eq1}
 

@@ -1,6 +1,6 @@
 -- `bdz_table::peel::leave` meets its contract. Assumes nothing.
-use Rattle.std.proofs.Common.{◌-◌, length, ⊎_elim, arith, rules}
-use Rattle.bdz_table.proofs.Leaving.{Leaving, leaving_none, leaving_all, leaving_inside, leaving_insidex, leaving_some, leaving_skip, leaving-push, leaving_room}
+use Rattle.std.proofs.Common.{◌-◌, length}
+use Rattle.bdz_table.proofs.Leaving.{Leaving}
 use Rattle.bdz_table.proofs.peel.leave.Given as goal
 
 abbrev pub invariant-loop-j : goal.invariant-loop-j

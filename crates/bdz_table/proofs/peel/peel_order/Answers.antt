@@ -1,6 +1,5 @@
 -- `bdz_table::peel::peel_order` meets its contract. Assumes nothing.
-use borrow.Author.Tests.{not-true, not-false}
-use Rattle.std.proofs.Common.{length, arith, rules}
+use Rattle.std.proofs.Common.{length, arith}
 use Rattle.bdz_table.specs.Keys.{graph_of}
 use Rattle.bdz_table.proofs.Answers.{counted_yes, counted_no, answer_crowded, answer_stuck, answer_works, turnable}
 use Rattle.bdz_table.proofs.Counting.{graph_of_lem}

@@ -1,9 +1,8 @@
 -- `bdz_table::peel::peel_turns` meets its contract. The loop's invariant: what is left to run of the queue is what was to run at first.
 -- Assumes nothing.
-use Rattle.std.proofs.Common.{◌-◌, length, sym, ◌∙◌, ⊎_elim, arith}
-use Rattle.bdz_table.specs.Keys.{graph_of}
+use Rattle.std.proofs.Common.{length, sym, ◌∙◌, arith}
 use Rattle.bdz_table.proofs.Counting.{graph_of_lem}
-use Rattle.bdz_table.proofs.Turning.{Turning, turning_none, turning_take, turning_skip, turning_all, next_inside, key_below, leaves, order_room}
+use Rattle.bdz_table.proofs.Turning.{turning_none, turning_take, turning_skip, turning_all, next_inside, key_below, leaves, order_room}
 use Rattle.bdz_table.proofs.peel.peel_turns.Goals as goal
 use Rattle.bdz_table.proofs.peel.peel_turns.Goals.{then-deg-v-eq1, else-deg-v-eq1}
 

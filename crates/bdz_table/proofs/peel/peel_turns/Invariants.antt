@@ -1,9 +1,8 @@
 -- `bdz_table::peel::peel_turns` meets its contract. The loop's invariant: what is left to run of the queue is what was to run at first.
 -- Assumes nothing.
-use Rattle.std.proofs.Common.{◌-◌, length, sym, ◌∙◌, ⊎_elim, arith}
+use Rattle.std.proofs.Common.{◌-◌, length}
 use Rattle.bdz_table.specs.Keys.{graph_of}
-use Rattle.bdz_table.proofs.Counting.{graph_of_lem}
-use Rattle.bdz_table.proofs.Turning.{Turning, turning_none, turning_take, turning_skip, turning_all, next_inside, key_below, leaves, order_room}
+use Rattle.bdz_table.proofs.Turning.{Turning}
 use Rattle.bdz_table.proofs.peel.peel_turns.Given as goal
 
 abbrev pub invariant-loop-qi : goal.invariant-loop-qi

@@ -1,5 +1,4 @@
 -- `bdz_table::peel::vertices_of` meets its contract. Assumes nothing.
-use Rattle.std.proofs.Common.{rules}
 use Rattle.bdz_table.proofs.peel.vertices_of.Goals as goal
 
 pub returns : goal.returns

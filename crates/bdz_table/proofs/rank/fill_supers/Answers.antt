@@ -1,7 +1,7 @@
 -- `bdz_table::rank::fill_supers` meets its contract. The loop's invariant: i super counts stand in supers, and acc is the next. Assumes nothing.
-use Rattle.std.proofs.Common.{◌≡◌, ◌+◌, ◌-◌, arith, rules}
+use Rattle.std.proofs.Common.{◌+◌, arith}
 use Rattle.bdz_base.specs.Sizes.{super_count}
-use Rattle.bdz_base.proofs.Buffers.{Filled, filled_none, filled_more, filled_all}
+use Rattle.bdz_base.proofs.Buffers.{filled_none, filled_more, filled_all}
 use Rattle.bdz_table.specs.Rank.{super_at, super_counts}
 use Rattle.bdz_table.proofs.Ranks.{super_none, super_le, super_more}
 use Rattle.bdz_table.proofs.rank.fill_supers.Goals as goal

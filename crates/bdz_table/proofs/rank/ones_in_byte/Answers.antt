@@ -1,5 +1,5 @@
 -- `bdz_table::rank::ones_in_byte` meets its contract. Assumes nothing.
-use Rattle.std.proofs.Common.{◌/◌, ◌^◌, arith, pow_pos, pow_mono, rules}
+use Rattle.std.proofs.Common.{◌/◌, ◌^◌, arith, pow_pos, pow_mono}
 use lib.Bits.{and_mask}
 use Rattle.bdz_table.proofs.Ones.{ones_low}
 use Rattle.bdz_table.proofs.Bits.{one_moved}

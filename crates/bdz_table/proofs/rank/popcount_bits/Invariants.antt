@@ -1,6 +1,6 @@
 -- `bdz_table::rank::popcount_bits` meets its contract. Assumes nothing.
-use Rattle.std.proofs.Common.{◌-◌, ◌/◌, arith, rules}
-use Rattle.bdz_table.proofs.Ones.{Walked, walked_none, walked_more, walked_all}
+use Rattle.std.proofs.Common.{◌-◌}
+use Rattle.bdz_table.proofs.Ones.{Walked}
 use Rattle.bdz_table.proofs.rank.popcount_bits.Given as goal
 
 abbrev pub invariant-loop-b : goal.invariant-loop-b

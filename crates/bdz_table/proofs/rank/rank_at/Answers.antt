@@ -1,5 +1,5 @@
 -- `bdz_table::rank::rank_at` meets its contract. Assumes nothing.
-use Rattle.std.proofs.Common.{length, sym, ◌∙◌, arith, rules, ne_eqb}
+use Rattle.std.proofs.Common.{length, sym, ◌∙◌, arith, ne_eqb}
 use Rattle.bdz_table.specs.Rank.{ranked_of}
 use Rattle.bdz_table.proofs.Passed.{supers_passed}
 use Rattle.bdz_table.proofs.rank.rank_at.Goals as goal

@@ -1,5 +1,5 @@
 -- `bdz_table::rank::rank_below` meets its contract. Assumes nothing.
-use Rattle.std.proofs.Common.{◌*◌, ◌/◌, ◌^◌, get_or, ◌∙◌, rules}
+use Rattle.std.proofs.Common.{◌*◌, ◌/◌, ◌^◌, get_or, ◌∙◌}
 use native.Mathlib.Nat.{add-mod-mod}
 use Rattle.bdz_table.specs.Rank.{rank_with, ones_between}
 use Rattle.bdz_table.proofs.rank.rank_below.Goals as goal

@@ -1,5 +1,5 @@
 -- `bdz_table::rank::supers_from_occ_bytes` meets its contract. Assumes nothing.
-use Rattle.std.proofs.Common.{length, sym, ◌∙◌, rules, ne_eqb}
+use Rattle.std.proofs.Common.{length, sym, ◌∙◌, ne_eqb}
 use Rattle.bdz_table.proofs.Passed.{supers_passed}
 use Rattle.bdz_table.proofs.rank.supers_from_occ_bytes.Goals as goal
 

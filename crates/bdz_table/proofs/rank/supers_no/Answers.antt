@@ -1,5 +1,5 @@
 -- `bdz_table::rank::supers_no` meets its contract. Assumes nothing.
-use Rattle.std.proofs.Common.{rules, le-ltb, lt-ltb}
+use Rattle.std.proofs.Common.{le-ltb, lt-ltb}
 use Rattle.bdz_table.specs.Rank.{supers_no}
 use Rattle.bdz_table.proofs.rank.supers_no.Goals as goal
 

@@ -1,6 +1,6 @@
 -- `bdz_table::scratch::zero32` meets its contract. Assumes nothing.
-use Rattle.std.proofs.Common.{◌-◌, length, arith, rules}
-use Rattle.bdz_table.proofs.Zeroing.{Zeroed, zeroed_none, zeroed_more, zeroed_all}
+use Rattle.std.proofs.Common.{arith}
+use Rattle.bdz_table.proofs.Zeroing.{zeroed_none, zeroed_more, zeroed_all}
 use Rattle.bdz_table.proofs.scratch.zero32.Goals as goal
 
 pub loop-i-init : goal.loop-i-init

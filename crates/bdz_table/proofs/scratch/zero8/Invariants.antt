@@ -1,6 +1,6 @@
 -- `bdz_table::scratch::zero8` meets its contract. Assumes nothing.
-use Rattle.std.proofs.Common.{◌-◌, length, arith, rules}
-use Rattle.bdz_table.proofs.Zeroing.{Zeroed, zeroed_none, zeroed_more, zeroed_all}
+use Rattle.std.proofs.Common.{◌-◌, length}
+use Rattle.bdz_table.proofs.Zeroing.{Zeroed}
 use Rattle.bdz_table.proofs.scratch.zero8.Given as goal
 
 abbrev pub invariant-loop-i : goal.invariant-loop-i

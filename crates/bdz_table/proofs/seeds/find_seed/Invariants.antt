@@ -1,6 +1,6 @@
 -- `bdz_table::seeds::find_seed` meets its contract. The loop's invariant: the search from here on is the whole search. Assumes nothing.
-use Rattle.std.proofs.Common.{◌≡◌, ◌-◌, length, refl, ◌∙◌, rules}
-use Rattle.bdz_table.proofs.Tries.{Searching, searching_none, searching_found, searching_more, searching_all}
+use Rattle.std.proofs.Common.{◌≡◌, ◌-◌, length}
+use Rattle.bdz_table.proofs.Tries.{Searching}
 use Rattle.bdz_table.proofs.seeds.find_seed.Given as goal
 
 abbrev pub invariant-loop-tries : goal.invariant-loop-tries

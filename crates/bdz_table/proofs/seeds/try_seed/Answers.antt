@@ -1,5 +1,5 @@
 -- `bdz_table::seeds::try_seed` meets its contract. Assumes nothing.
-use Rattle.std.proofs.Common.{length, rules}
+use Rattle.std.proofs.Common.{length}
 use Rattle.bdz_table.proofs.Zeroing.{room_of}
 use Rattle.bdz_table.proofs.seeds.try_seed.Goals as goal
 

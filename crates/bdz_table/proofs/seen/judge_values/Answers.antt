@@ -1,7 +1,7 @@
 -- `bdz_table::seen::judge_values` meets its contract. The loop's invariant: so many values were judged, and none refused. The
 -- measure is how many are left. Assumes nothing.
-use Rattle.std.proofs.Common.{◌-◌, length, sym, ◌∙◌, arith, rules}
-use Rattle.bdz_table.proofs.Judging.{Judging, judging_none, judging_length, judging_room, judging_all, judging_large, judging_again, judging_more}
+use Rattle.std.proofs.Common.{sym, ◌∙◌, arith}
+use Rattle.bdz_table.proofs.Judging.{judging_none, judging_length, judging_room, judging_all, judging_large, judging_again, judging_more}
 use Rattle.bdz_table.proofs.seen.judge_values.Goals as goal
 
 pub loop-i-init : goal.loop-i-init
