@@ -1,4 +1,6 @@
 // Images: their header, their writer, the two openers, the audit, and the page feed.
+#![tactic(auto)]
+
 pub mod ask;
 pub mod audit;
 pub mod bits;

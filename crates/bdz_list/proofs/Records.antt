@@ -80,12 +80,12 @@ module _ (kind : Kind) (bytes : List ℕ) (i : ℕ) {at second : ℕ} {t : Bool}
   told : t ≡ marked bytes (place_of kind i) (letter_of kind)
   told = rw (s, p) at m
 
-  pub records_broken : {n : ℕ} → not t ≡ true → i < n → false ≡ records_are kind bytes n
-  records_broken {n} e h = sym (broken kind bytes i n (sym told ∙ not-true t e) h)
+  pub records_broken : {n : ℕ} → t ≡ false → i < n → false ≡ records_are kind bytes n
+  records_broken {n} e h = sym (broken kind bytes i n (sym told ∙ e) h)
 
-  pub records_more : not t ≡ false → records_are kind bytes i ≡ true → records_are kind bytes (i + 1) ≡ true
+  pub records_more : t ≡ true → records_are kind bytes i ≡ true → records_are kind bytes (i + 1) ≡ true
   unfolding records_are
-  records_more e before = rw (add-one i, before) (sym told ∙ not-false t e)
+  records_more e before = rw (add-one i, before) (sym told ∙ e)
 
 -- a record's key
 pub key_here : (kind : Kind) (bytes : List ℕ) (i : ℕ) {at x : ℕ} → at ≡ place_of kind i → x ≡ bits_at 64 bytes ((at + 2) * 8) → x ≡ list_key kind bytes i
@@ -126,9 +126,9 @@ module _ (kind : Kind) (bytes : List ℕ) (s : shaped kind bytes ≡ true) where
   pub shaped_records : records_are kind bytes (list_count kind bytes) ≡ true
   shaped_records = rest.1
 
-pub assigned_long : (bytes : List ℕ) {t : Bool} → t ≡ shaped Assigned bytes → not t ≡ false → 0 + 1 < length bytes
+pub assigned_long : (bytes : List ℕ) {t : Bool} → t ≡ shaped Assigned bytes → t ≡ true → 0 + 1 < length bytes
 assigned_long bytes {t} e h =
-    let w = shaped_whole Assigned bytes (sym e ∙ not-false t h) in
+    let w = shaped_whole Assigned bytes (sym e ∙ h) in
     omega (arith, w)
 
 -- ---- refusals
