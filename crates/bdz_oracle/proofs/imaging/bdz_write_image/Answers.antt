@@ -1,0 +1,5 @@
+-- `bdz_oracle::imaging::bdz_write_image` meets its contract. Assumes nothing.
+use Rattle.bdz_oracle.proofs.imaging.bdz_write_image.Goals as goal
+
+pub returns : goal.returns
+returns c = rw c.kind_of.ensures at c.write_image.ensures
