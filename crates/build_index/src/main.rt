@@ -1,5 +1,8 @@
 // Builds index.bdz from keys.lst. Prints only a refusal; a failure of the operating system goes to standard error.
-ghost use Rattle.std.specs.Prelude.{◌≡◌, true};
+#![tactic(auto)]
+
+ghost use Rattle.std.specs.Prelude.{◌≡◌, ◌<◌, ◌≤◌, length, true};
+ghost use Rattle.std.specs.Str.{IsAscii};
 
 use bdz_base::refusal::{ACCEPTED, NO_ROOM};
 use bdz_base::verts::Kind;
@@ -10,50 +13,93 @@ use bdz_image::write::write_image;
 use bdz_list::list::{Listed, read_list};
 use bdz_table::build::{build_assigned_small, build_compact_small};
 use bdz_table::index::Built;
-use libc::STDOUT_FILENO;
+use std::fs::{File, OpenFile};
+use std::io::{Read, Write};
+use std::random::RandomSource;
+use std::rt::Files;
+use std::{fs, io, str};
 
-fn print_some(bytes: &[u8; 18], len: usize) {
+fn print_some(rt: &impl Print, bytes: &[u8; 18], len: usize) -> io::Result<()> {
     let all: &[u8] = bytes;
     if len <= all.len() {
-        io::write_all(STDOUT_FILENO, &all[0..len]);
+        rt.write_all(&all[0..len])?;
     }
+    Ok(())
 }
 
 // One line, as "refused 8 bad magic".
-fn refuse(no: u32) {
+fn refuse(rt: &impl Print, no: u32) -> io::Result<()> {
     let text = refusal_text(no);
-    let len = text.len;
-    let bytes = text.bytes;
-    io::write_all(STDOUT_FILENO, b"refused ");
-    io::print_decimal(STDOUT_FILENO, no as u64);
-    io::write_all(STDOUT_FILENO, b" ");
-    print_some(&bytes, len);
-    io::write_all(STDOUT_FILENO, b"\n");
+    rt.write_all(b"refused ")?;
+    rt.print(no)?;
+    rt.write_all(b" ")?;
+    print_some(rt, &text.bytes, text.len)?;
+    rt.write_all(b"\n")
+}
+
+// Tells standard error what the system said of a file, as "keys.lst: Permission denied": its words alone, without the number that std
+// puts behind them. Where standard error takes nothing, nobody is told.
+fn tell(rt: &impl Eprint, path: &str, error: &io::Error) {
+    let mut room = [0u8; 320];
+    let mut rest: &mut [u8] = &mut room;
+    let _ = write!(rest, "{error}");
+    let text = str::from_utf8(&room).unwrap_or("");
+    let words = match text.split_once(" (os error ") {
+        Some((words, _)) => words,
+        None => text.trim_end_matches('\0'),
+    };
+    let _ = eprintln!(rt; "{path}: {words}");
+}
+
+// Reads until there is no more room, the file ends or a read fails: how many bytes came, and how it ended.
+fn read_full(file: &mut impl Read, out: &mut [u8]) -> (usize, io::Result<()>)
+    ensures { result.0 ≤ length out.new }
+{
+    let mut done: usize = 0;
+    while done < out.len() {
+        match file.read(&mut out[done..]) {
+            Ok(0) => return (done, Ok(())),
+            Ok(n) => done += n,
+            Err(error) => return (done, Err(error)),
+        }
+    }
+    (done, Ok(()))
+}
+
+// A read that failed looks like the file's end; at the end one read more gives nothing. A file that only grew meanwhile is refused too,
+// and the system has no error for that but its number 0.
+fn read_open(file: &mut impl Read, out: &mut [u8]) -> io::Result<usize>
+    ensures { IfOk result (λ n. n ≤ length out.new) }
+{
+    let (n, ended) = read_full(file, out);
+    if out.len() <= n {
+        return Ok(n);
+    }
+    if file.read(&mut out[n..])? != 0 {
+        ended?;
+        return Err(io::Error::from_raw_os_error(0));
+    }
+    Ok(n)
+}
+
+fn open_and_read(rt: &impl Files, path: &str, out: &mut [u8]) -> io::Result<usize>
+    ensures { IfOk result (λ n. n ≤ length out.new) }
+{
+    let mut file = File::open(rt, path)?;
+    read_open(&mut file, out)
 }
 
 // The bytes of a file, as many as there is room for; none where it cannot be read, and then standard error says why.
-fn read_file(path: &[u8], out: &mut [u8]) -> usize {
-    let fd = os::open_read(path);
-    if fd < 0 {
-        os::fail(path);
-        return 0;
+fn read_file(rt: &(impl Files + Eprint), path: &str, out: &mut [u8]) -> usize
+    ensures { result ≤ length out.new }
+{
+    match open_and_read(rt, path, out) {
+        Ok(n) => n,
+        Err(error) => {
+            tell(rt, path, &error);
+            0
+        }
     }
-    let n = read_open(path, fd, out);
-    libc::close(fd);
-    n
-}
-
-// A read that failed looks like the file's end; at the end one read more gives nothing.
-fn read_open(path: &[u8], fd: i32, out: &mut [u8]) -> usize {
-    let n = io::read_full(fd, out);
-    if out.len() <= n {
-        return n;
-    }
-    if libc::read(fd, &mut out[n..]) != 0 {
-        os::fail(path);
-        return 0;
-    }
-    n
 }
 
 // Whether both are the same bytes.
@@ -61,157 +107,158 @@ fn same_bytes(a: &[u8], b: &[u8]) -> bool
     ensures a_value { result ≡ true → a.now ≡ b.now }
     ensures value { a.now ≡ b.now → result ≡ true }
 {
-    if a.len() != b.len() {
-        return false;
-    }
-    let mut i: usize = 0;
-    while i < a.len() {
-        if a[i] != b[i] {
-            return false;
-        }
-        i += 1;
-    }
-    true
+    a == b
 }
 
-// Whether all bytes are written and stand on the disk.
-fn put(fd: i32, bytes: &[u8]) -> bool {
-    if !io::write_all(fd, bytes) {
-        return false;
-    }
-    libc::fsync(fd) == 0
+// All bytes are written and stand on the disk, and the file is closed. std does not tell how the closing went, which comes after what
+// the disk said of the bytes, and before they are read back.
+fn put<F: Write + OpenFile + Drop>(file: F, bytes: &[u8]) -> io::Result<()> {
+    let mut file = file;
+    file.write_all(bytes)?;
+    file.sync_all()
 }
 
 // Whether the file holds just these bytes.
-fn holds(path: &[u8], bytes: &[u8], room: &mut [u8]) -> bool {
-    let n = read_file(path, room);
-    if room.len() < n {
-        return false;
-    }
+fn holds(rt: &(impl Files + Eprint), path: &str, bytes: &[u8], room: &mut [u8]) -> bool {
+    let n = read_file(rt, path, room);
     same_bytes(&room[0..n], bytes)
 }
 
-// All bytes of a name.
-fn spell(name: &mut [u8; 30], text: &[u8; 30]) {
-    let mut i: usize = 0;
-    while i < 30 {
-        name[i] = text[i];
-        i += 1;
+// The hexadecimal digit of a number below 16.
+fn digit(number: u64) -> u8
+    requires { number < 16 }
+    ensures { result < 128 }
+{
+    if number < 10 {
+        b'0' + number as u8
+    } else {
+        b'a' + (number - 10) as u8
     }
 }
 
-// The digits in the middle of it.
-fn number(name: &mut [u8; 30], digits: &[u8; 16]) {
-    let mut i: usize = 0;
-    while i < 16 {
-        name[10 + i] = digits[i];
-        i += 1;
+// The name of a new file: a number in hexadecimal, in 16 digits.
+fn name_of(number: u64) -> [u8; 30]
+    ensures { IsAscii result }
+{
+    let mut name = *b"index.bdz.0000000000000000.new";
+    let mut rest = number;
+    for i in 0usize..16 {
+        name[25 - i] = digit(rest % 16);
+        rest /= 16;
     }
+    name
 }
 
-// A name of this run's own: 64 random bits in hexadecimal.
-fn fresh_name(name: &mut [u8; 30]) -> bool {
+// A name of this run's own: 64 random bits.
+fn fresh_name(rt: &impl RandomSource) -> io::Result<[u8; 30]>
+    ensures { IfOk result IsAscii }
+{
     let mut random = [0u8; 8];
-    if libc::getentropy(&mut random) != 0 {
-        return false;
-    }
-    let mut digits = [0u8; 16];
-    io::hex(le64(&random, 0), 16, &mut digits);
-    spell(name, b"index.bdz.0000000000000000.new");
-    number(name, &digits);
-    true
+    rt.fill_bytes(&mut random)?;
+    Ok(name_of(le64(&random, 0)))
+}
+
+// A name as the text that std asks for.
+fn text_of(name: &[u8; 30]) -> &str
+    requires { IsAscii name.now }
+{
+    str::from_utf8(name).unwrap()
 }
 
 // Whether a new file of that name, on the disk, holds just these bytes. One that does not is removed.
-fn made(name: &[u8; 30], bytes: &[u8], room: &mut [u8]) -> bool {
-    let fresh: &[u8] = name;
+fn made(rt: &(impl Files + Eprint), fresh: &str, bytes: &[u8], room: &mut [u8]) -> bool {
     // a name that is taken, by a link too, is refused: nothing that stands there is touched
-    let fd = os::create(fresh);
-    if fd < 0 {
-        os::fail(b"index.bdz");
+    let created = File::options().write(true).create_new(true).open(rt, fresh);
+    let file = match created {
+        Ok(file) => file,
+        Err(error) => {
+            tell(rt, "index.bdz", &error);
+            return false;
+        }
+    };
+    if let Err(error) = put(file, bytes) {
+        tell(rt, "index.bdz", &error);
+        remove(rt, fresh);
         return false;
     }
-    let written = put(fd, bytes);
-    if !written {
-        os::fail(b"index.bdz");
-        libc::close(fd);
-        os::unlink(fresh);
-        return false;
-    }
-    if libc::close(fd) != 0 {
-        os::fail(b"index.bdz");
-        os::unlink(fresh);
-        return false;
-    }
-    if !holds(fresh, bytes, room) {
-        io::write_all(libc::STDERR_FILENO, b"index.bdz: not what was written\n");
-        os::unlink(fresh);
+    if !holds(rt, fresh, bytes, room) {
+        let _ = eprintln!(rt; "index.bdz: not what was written");
+        remove(rt, fresh);
         return false;
     }
     true
 }
 
+// A file that cannot be removed stays: what went wrong before is told already.
+fn remove(rt: &impl Files, fresh: &str) {
+    let _ = fs::remove_file(rt, fresh);
+}
+
 // The new file takes the index's name, and that too reaches the disk.
-fn rename_in(folder: i32, name: &[u8; 30]) {
-    let fresh: &[u8] = name;
-    if os::rename(fresh, b"index.bdz") != 0 {
-        os::fail(b"index.bdz");
-        os::unlink(fresh);
+fn rename_in<R: Files + Eprint>(rt: &R, folder: &R::File, fresh: &str) {
+    if let Err(error) = fs::rename(rt, fresh, "index.bdz") {
+        tell(rt, "index.bdz", &error);
+        remove(rt, fresh);
         return;
     }
-    if libc::fsync(folder) != 0 {
-        os::fail(b".");
+    if let Err(error) = folder.sync_all() {
+        tell(rt, ".", &error);
     }
 }
 
 // The new file stands beside the old one until it has been read back; only then does it take its name.
-fn keep(bytes: &[u8], room: &mut [u8]) {
-    let mut name = [0u8; 30];
-    if !fresh_name(&mut name) {
-        os::fail(b"index.bdz");
-        return;
+fn keep(rt: &(impl Files + RandomSource + Eprint), bytes: &[u8], room: &mut [u8]) {
+    let name = match fresh_name(rt) {
+        Ok(name) => name,
+        Err(error) => {
+            tell(rt, "index.bdz", &error);
+            return;
+        }
+    };
+    let folder = match File::open(rt, ".") {
+        Ok(folder) => folder,
+        Err(error) => {
+            tell(rt, ".", &error);
+            return;
+        }
+    };
+    let fresh = text_of(&name);
+    if made(rt, fresh, bytes, room) {
+        rename_in(rt, &folder, fresh);
     }
-    let folder = os::open_read(b".");
-    if folder < 0 {
-        os::fail(b".");
-        return;
-    }
-    if made(&name, bytes, room) {
-        rename_in(folder, &name);
-    }
-    libc::close(folder);
 }
 
-fn main() {
+fn main(rt: HostRuntime) -> io::Result<()> {
     let mut list = [0u8; 14007];
-    let n = read_file(b"keys.lst", &mut list);
+    let n = read_file(&rt, "keys.lst", &mut list);
     let mut keys = [0u64; 1000];
     let mut values = [0u32; 1000];
     let view: &[u8] = &list;
     if view.len() < n {
-        refuse(NO_ROOM);
-        return;
+        return refuse(&rt, NO_ROOM);
     }
     let listed = read_list(&view[0..n], &mut keys, &mut values);
     if listed.no != ACCEPTED {
-        refuse(listed.no);
-        return;
+        return refuse(&rt, listed.no);
     }
-    build(listed, &keys, &values);
+    build(&rt, listed, &keys, &values)
 }
 
 // The keys and values of a list, without what stands behind them.
-fn build(listed: Listed, keys: &[u64; 1000], values: &[u32; 1000]) {
+fn build(
+    rt: &(impl Files + RandomSource + Print + Eprint),
+    listed: Listed,
+    keys: &[u64; 1000],
+    values: &[u32; 1000],
+) -> io::Result<()> {
     let all: &[u64] = keys;
     let every: &[u32] = values;
     let count = listed.count as usize;
     if all.len() < count {
-        refuse(NO_ROOM);
-        return;
+        return refuse(rt, NO_ROOM);
     }
     if every.len() < count {
-        refuse(NO_ROOM);
-        return;
+        return refuse(rt, NO_ROOM);
     }
     let kind = listed.kind;
     let mut table = [0u32; 2048];
@@ -225,10 +272,9 @@ fn build(listed: Listed, keys: &[u64; 1000], values: &[u32; 1000]) {
         &mut occupancy,
     );
     if built.no != ACCEPTED {
-        refuse(built.no);
-        return;
+        return refuse(rt, built.no);
     }
-    write(built, &table, &occupancy);
+    write(rt, built, &table, &occupancy)
 }
 
 fn build_kind(
@@ -268,19 +314,23 @@ fn build_kind(
     }
 }
 
-fn write(built: Built, table: &[u32], occupancy: &[u8]) {
+fn write(
+    rt: &(impl Files + RandomSource + Print + Eprint),
+    built: Built,
+    table: &[u32],
+    occupancy: &[u8],
+) -> io::Result<()> {
     let mut image = [0u8; 8192];
     let no = write_image(built.index, table, occupancy, &mut image);
     if no != ACCEPTED {
-        refuse(no);
-        return;
+        return refuse(rt, no);
     }
     let len = image_len(built.index) as usize;
     let view: &[u8] = &image;
     if view.len() < len {
-        refuse(NO_ROOM);
-        return;
+        return refuse(rt, NO_ROOM);
     }
     let mut room = [0u8; 8193];
-    keep(&view[0..len], &mut room);
+    keep(rt, &view[0..len], &mut room);
+    Ok(())
 }
