@@ -1,5 +1,9 @@
 // Tries every listed key on the written image: reads keys.lst and index.bdz, feeds the pages of the file and prints two lines, or one
 // refusal. Nothing is printed before all answers are in.
+#![tactic(auto)]
+
+ghost use Rattle.std.specs.Prelude.{◌≤◌, length, IfOk};
+
 use bdz_base::refusal::{ACCEPTED, G_LENGTH, NO_ROOM};
 use bdz_base::verts::Kind;
 use bdz_image::feed::{feed_ask, feed_page, feed_start};
@@ -11,99 +15,138 @@ use bdz_list::list::{Listed, read_list};
 use bdz_list::tally::{first_holders, same_values};
 use bdz_table::index::{Built, Index};
 use bdz_table::rank::supers_from_occ_bytes;
-use libc::STDOUT_FILENO;
+use std::fs::File;
+use std::io::{Read, Seek, SeekFrom, Write};
+use std::rt::Files;
+use std::{io, str};
 
-fn print_some(bytes: &[u8; 18], len: usize) {
+fn print_some(rt: &impl Print, bytes: &[u8; 18], len: usize) -> io::Result<()> {
     let all: &[u8] = bytes;
     if len <= all.len() {
-        io::write_all(STDOUT_FILENO, &all[0..len]);
+        rt.write_all(&all[0..len])?;
     }
+    Ok(())
 }
 
 // One line, as "refused 8 bad magic".
-fn refuse(no: u32) {
+fn refuse(rt: &impl Print, no: u32) -> io::Result<()> {
     let text = refusal_text(no);
-    let len = text.len;
-    let bytes = text.bytes;
-    io::write_all(STDOUT_FILENO, b"refused ");
-    io::print_decimal(STDOUT_FILENO, no as u64);
-    io::write_all(STDOUT_FILENO, b" ");
-    print_some(&bytes, len);
-    io::write_all(STDOUT_FILENO, b"\n");
+    rt.write_all(b"refused ")?;
+    rt.print(no)?;
+    rt.write_all(b" ")?;
+    print_some(rt, &text.bytes, text.len)?;
+    rt.write_all(b"\n")
+}
+
+// Tells standard error what the system said of a file, as "keys.lst: Permission denied": its words alone, without the number that std
+// puts behind them. Where standard error takes nothing, nobody is told.
+fn tell(rt: &impl Eprint, path: &str, error: &io::Error) {
+    let mut room = [0u8; 320];
+    let mut rest: &mut [u8] = &mut room;
+    let _ = write!(rest, "{error}");
+    let text = str::from_utf8(&room).unwrap_or("");
+    let words = match text.split_once(" (os error ") {
+        Some((words, _)) => words,
+        None => text.trim_end_matches('\0'),
+    };
+    let _ = eprintln!(rt; "{path}: {words}");
+}
+
+// Reads until there is no more room, the file ends or a read fails: how many bytes came, and how it ended.
+fn read_full(file: &mut impl Read, out: &mut [u8]) -> (usize, io::Result<()>)
+    ensures { result.0 ≤ length out.new }
+{
+    let mut done: usize = 0;
+    while done < out.len() {
+        match file.read(&mut out[done..]) {
+            Ok(0) => return (done, Ok(())),
+            Ok(n) => done += n,
+            Err(error) => return (done, Err(error)),
+        }
+    }
+    (done, Ok(()))
 }
 
 // What was read of a file, and how long the whole of it is.
-#[derive(Drop)]
+#[derive(Clone, Copy)]
 struct Held {
     read: usize,
     len: u64,
 }
 
-// The bytes of a file, as many as there is room for, and its length, both through one descriptor. A file that cannot be read counts as
-// empty, and standard error says why.
-fn read_file(path: &[u8], out: &mut [u8]) -> Held {
-    let fd = os::open_read(path);
-    if fd < 0 {
-        os::fail(path);
-        return Held { read: 0, len: 0 };
-    }
-    let held = read_open(path, fd, out);
-    libc::close(fd);
-    held
-}
-
-// A read that failed looks like the file's end; at the end one read more gives nothing.
-fn read_open(path: &[u8], fd: i32, out: &mut [u8]) -> Held {
-    let n = io::read_full(fd, out);
+// A read that failed looks like the file's end; at the end one read more gives nothing. A file that only grew meanwhile is refused too,
+// and the system has no error for that but its number 0. Of a file longer than the room its end is asked for, through the same
+// descriptor.
+fn read_open<F: Read + Seek>(file: &mut F, out: &mut [u8]) -> io::Result<Held>
+    ensures { IfOk result (λ held. held.read ≤ length out.new) }
+{
+    let (n, ended) = read_full(file, out);
     if out.len() <= n {
-        return Held {
+        let end = file.seek(SeekFrom::End(0)).unwrap_or(0);
+        return Ok(Held {
             read: n,
-            len: larger(n as u64, bytes_to(libc::lseek(fd, 0, libc::SEEK_END))),
-        };
+            len: larger(n as u64, end),
+        });
     }
-    if libc::read(fd, &mut out[n..]) != 0 {
-        os::fail(path);
-        return Held { read: 0, len: 0 };
+    if file.read(&mut out[n..])? != 0 {
+        ended?;
+        return Err(io::Error::from_raw_os_error(0));
     }
-    Held {
+    Ok(Held {
         read: n,
         len: n as u64,
-    }
+    })
 }
 
-// A position as a count of bytes; 0 where there was no answer.
-fn bytes_to(end: i64) -> u64 {
-    if end > 0 { end as u64 } else { 0 }
+fn open_and_read(rt: &impl Files, path: &str, out: &mut [u8]) -> io::Result<Held>
+    ensures { IfOk result (λ held. held.read ≤ length out.new) }
+{
+    let mut file = File::open(rt, path)?;
+    read_open(&mut file, out)
+}
+
+// The bytes of a file, as many as there is room for, and its length, both through one descriptor. A file that cannot be read counts as
+// empty, and standard error says why.
+fn read_file(rt: &(impl Files + Eprint), path: &str, out: &mut [u8]) -> Held
+    ensures { result.read ≤ length out.new }
+{
+    match open_and_read(rt, path, out) {
+        Ok(held) => held,
+        Err(error) => {
+            tell(rt, path, &error);
+            Held { read: 0, len: 0 }
+        }
+    }
 }
 
 fn larger(a: u64, b: u64) -> u64 {
     if a < b { b } else { a }
 }
 
-fn say(what: &[u8], number: u64) {
-    io::write_all(STDOUT_FILENO, what);
-    io::print_decimal(STDOUT_FILENO, number);
+fn say(rt: &impl Print, what: &[u8], number: u64) -> io::Result<()> {
+    rt.write_all(what)?;
+    rt.print(number)
 }
 
 // The magic, n, m and width of an opened image.
-fn say_image(index: Index) {
+fn say_image(rt: &impl Print, index: Index) -> io::Result<()> {
     let kind = index.kind;
     match kind {
-        Kind::Assigned => say(b"image BDZ2 n=", index.n as u64),
-        Kind::Compact => say(b"image BDZ3 n=", index.n as u64),
+        Kind::Assigned => say(rt, b"image BDZ2 n=", index.n as u64)?,
+        Kind::Compact => say(rt, b"image BDZ3 n=", index.n as u64)?,
     }
-    say(b" m=", index.m as u64);
-    say(b" bits=", index.width as u64);
-    io::write_all(STDOUT_FILENO, b"\n");
+    say(rt, b" m=", index.m as u64)?;
+    say(rt, b" bits=", index.width as u64)?;
+    rt.write_all(b"\n")
 }
 
-fn say_keys(keys: u64, same: u64) {
-    say(b"keys=", keys);
-    say(b" same=", same);
+fn say_keys(rt: &impl Print, keys: u64, same: u64) -> io::Result<()> {
+    say(rt, b"keys=", keys)?;
+    say(rt, b" same=", same)?;
     if same <= keys {
-        say(b" other=", keys - same);
+        say(rt, b" other=", keys - same)?;
     }
-    io::write_all(STDOUT_FILENO, b"\n");
+    rt.write_all(b"\n")
 }
 
 // The listed pages, from the file; the number of the first that is refused, or 0.
@@ -229,57 +272,64 @@ fn count_supers(kind: Kind, m: u32, occ: &[u8], supers: &mut [u32]) -> u32 {
 }
 
 // Every key on an opened image, whose parts bdz_image names. That they lie within the file is proved of every image that opens.
-fn try_index(index: Index, keys: &[u64], values: &[u32], file: &[u8]) {
+fn try_index(
+    rt: &impl Print,
+    index: Index,
+    keys: &[u64],
+    values: &[u32],
+    file: &[u8],
+) -> io::Result<()> {
     if 65536 < index.m {
-        refuse(NO_ROOM);
-        return;
+        return refuse(rt, NO_ROOM);
     }
     let start = body_off(index) as usize;
     let middle = occ_off(index) as usize;
     let end = end_off(index) as usize;
     if middle < start {
-        refuse(G_LENGTH);
-        return;
+        return refuse(rt, G_LENGTH);
     }
     if end < middle {
-        refuse(G_LENGTH);
-        return;
+        return refuse(rt, G_LENGTH);
     }
     if file.len() < end {
-        refuse(G_LENGTH);
-        return;
+        return refuse(rt, G_LENGTH);
     }
     try_parts(
+        rt,
         index,
         keys,
         values,
         &file[start..middle],
         &file[middle..end],
-    );
+    )
 }
 
-fn try_parts(index: Index, keys: &[u64], values: &[u32], table: &[u8], occ: &[u8]) {
+fn try_parts(
+    rt: &impl Print,
+    index: Index,
+    keys: &[u64],
+    values: &[u32],
+    table: &[u8],
+    occ: &[u8],
+) -> io::Result<()> {
     let kind = index.kind;
     let mut supers = [0u32; 130];
     let counted = count_supers(kind, index.m, occ, &mut supers);
     if counted != ACCEPTED {
-        refuse(counted);
-        return;
+        return refuse(rt, counted);
     }
     let mut answers = [0u32; 1000];
     let no = answer_all(index, keys, table, occ, &supers, &mut answers);
     if no != ACCEPTED {
-        refuse(no);
-        return;
+        return refuse(rt, no);
     }
     let all: &[u32] = &answers;
     if all.len() < keys.len() {
-        refuse(NO_ROOM);
-        return;
+        return refuse(rt, NO_ROOM);
     }
     let same = right(index, values, &all[0..keys.len()]);
-    say_image(index);
-    say_keys(keys.len() as u64, same);
+    say_image(rt, index)?;
+    say_keys(rt, keys.len() as u64, same)
 }
 
 fn open_kind(kind: Kind, file: &[u8], len: u64) -> Built {
@@ -290,46 +340,45 @@ fn open_kind(kind: Kind, file: &[u8], len: u64) -> Built {
 }
 
 // The image is opened by the kind of the list.
-fn try_list(listed: Listed, keys: &[u64], values: &[u32]) {
-    let path = b"index.bdz";
+fn try_list(
+    rt: &(impl Files + Print + Eprint),
+    listed: Listed,
+    keys: &[u64],
+    values: &[u32],
+) -> io::Result<()> {
     let mut file = [0u8; 270368];
     let kind = listed.kind;
-    let held = read_file(path, &mut file);
+    let held = read_file(rt, "index.bdz", &mut file);
     let n = held.read;
     let view: &[u8] = &file;
     if view.len() < n {
-        refuse(NO_ROOM);
-        return;
+        return refuse(rt, NO_ROOM);
     }
     let opened = open_kind(kind, &view[0..n], held.len);
     if opened.no != ACCEPTED {
-        refuse(opened.no);
-        return;
+        return refuse(rt, opened.no);
     }
-    try_index(opened.index, keys, values, &view[0..n]);
+    try_index(rt, opened.index, keys, values, &view[0..n])
 }
 
-fn main() {
+fn main(rt: HostRuntime) -> io::Result<()> {
     let mut list = [0u8; 14007];
-    let n = read_file(b"keys.lst", &mut list).read;
+    let n = read_file(&rt, "keys.lst", &mut list).read;
     let mut keys = [0u64; 1000];
     let mut values = [0u32; 1000];
     let view: &[u8] = &list;
     if view.len() < n {
-        refuse(NO_ROOM);
-        return;
+        return refuse(&rt, NO_ROOM);
     }
     let listed = read_list(&view[0..n], &mut keys, &mut values);
     if listed.no != ACCEPTED {
-        refuse(listed.no);
-        return;
+        return refuse(&rt, listed.no);
     }
     let all: &[u64] = &keys;
     let every: &[u32] = &values;
     let count = listed.count as usize;
     if all.len() < count || every.len() < count {
-        refuse(NO_ROOM);
-        return;
+        return refuse(&rt, NO_ROOM);
     }
-    try_list(listed, &all[0..count], &every[0..count]);
+    try_list(&rt, listed, &all[0..count], &every[0..count])
 }
