@@ -164,7 +164,7 @@ fn packing_agrees(values: &[u64; 100], count: usize) -> bool
 }
 
 // What is read of a record's words: the words, and whether each has at most 32 bits.
-#[derive(Drop)]
+#[derive(Clone, Copy)]
 struct Words {
     words: [u32; 100],
     is_sound: bool,

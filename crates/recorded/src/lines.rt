@@ -8,7 +8,7 @@ const MOST: usize = 100;
 const DIGIT_FITS_BELOW: u64 = 0x1000_0000_0000_0000;
 
 // A record taken apart: its letter, its numbers, whether it is well formed so far, and whether its last number has no digit yet.
-#[derive(Drop)]
+#[derive(Clone, Copy)]
 pub(crate) struct Record {
     pub(crate) letter: u8,
     pub(crate) values: [u64; 100],

@@ -1,8 +1,10 @@
 // Replays recorded answers: computes the answer of each line of two files again, and prints how many lines are the same.
+#![tactic(auto)]
+
 mod judge;
 mod lines;
 
-ghost use Rattle.std.specs.Prelude.{◌≡◌, ◌<◌, ◌≤◌, length};
+ghost use Rattle.std.specs.Prelude.{◌≡◌, ◌<◌, ◌≤◌, length, IfSome};
 
 use bdz_base::mix::splitmix64;
 use bdz_base::verts::Kind;
@@ -12,13 +14,16 @@ use bdz_image::write::write_image;
 use bdz_list::list::read_list;
 use bdz_table::build::{build_assigned_small, build_compact_small};
 use bdz_table::rank::supers_from_occ_bytes;
-use libc::STDOUT_FILENO;
+use std::fs::File;
+use std::io;
+use std::io::Read;
+use std::rt::Files;
 
 // The longest file that is read, in bytes.
 const LONGEST: usize = 65536;
 
 // Where the replay of a file stands: the place of the next line, and how many lines, records and equal records came before it.
-#[derive(Drop)]
+#[derive(Clone, Copy)]
 struct Tally {
     at: usize,
     number: u64,
@@ -27,53 +32,49 @@ struct Tally {
 }
 
 // Writes which line of a file differs.
-fn print_difference(name: &[u8], number: u64) {
-    io::write_all(STDOUT_FILENO, name);
-    io::write_all(STDOUT_FILENO, b":");
-    io::print_decimal(STDOUT_FILENO, number);
-    io::write_all(STDOUT_FILENO, b" differs\n");
+fn print_difference(rt: &impl Print, name: &str, number: u64) -> io::Result<()> {
+    println!(rt; "{name}:{number} differs")
 }
 
 // Writes how many records a file has, and how many of them are the same.
-fn print_summary(name: &[u8], records: u64, same: u64) {
-    io::write_all(STDOUT_FILENO, name);
-    io::write_all(STDOUT_FILENO, b" lines=");
-    io::print_decimal(STDOUT_FILENO, records);
-    io::write_all(STDOUT_FILENO, b" same=");
-    io::print_decimal(STDOUT_FILENO, same);
-    io::write_all(STDOUT_FILENO, b"\n");
+fn print_summary(rt: &impl Print, name: &str, records: u64, same: u64) -> io::Result<()> {
+    println!(rt; "{name} lines={records} same={same}")
 }
 
 // Writes that a file cannot be read.
-fn print_unreadable(name: &[u8]) {
-    io::write_all(STDOUT_FILENO, name);
-    io::write_all(STDOUT_FILENO, b" unreadable\n");
+fn print_unreadable(rt: &impl Print, name: &str) -> io::Result<()> {
+    println!(rt; "{name} unreadable")
 }
 
 // What a line is found to be.
-#[derive(Drop)]
+#[derive(Clone, Copy)]
 enum Finding {
     NoRecord,
     Same,
     Different,
 }
 
-// The finding on a line. Where it differs, that is written.
-fn finding_of(name: &[u8], line: &[u8], number: u64) -> Finding {
+// The finding on a line.
+fn finding_of(line: &[u8]) -> Finding {
     if !lines::is_record(line) {
         return Finding::NoRecord;
     }
     if judge::agrees(lines::read_record(line)) {
         return Finding::Same;
     }
-    print_difference(name, number);
     Finding::Different
 }
 
 // The tally after a line, whose next one is at `next`.
 fn counted(tally: Tally, next: usize, finding: Finding) -> Tally
-    requires { (tally.number ≤ tally.at) × (tally.records ≤ tally.at) × (tally.same ≤ tally.at) × (tally.at < next) }
-    ensures { (result.at ≡ next) × (result.number ≤ next) × (result.records ≤ next) × (result.same ≤ next) }
+    requires number { tally.number ≤ tally.at }
+    requires records { tally.records ≤ tally.at }
+    requires same { tally.same ≤ tally.at }
+    requires later { tally.at < next }
+    ensures at { result.at ≡ next }
+    ensures number { result.number ≤ next }
+    ensures records { result.records ≤ next }
+    ensures same { result.same ≤ next }
 {
     let mut after = tally;
     after.at = next;
@@ -93,19 +94,30 @@ fn counted(tally: Tally, next: usize, finding: Finding) -> Tally
 }
 
 // The tally after the line at its place.
-fn replay_line(name: &[u8], text: &[u8], tally: Tally) -> Tally
-    requires { (tally.number ≤ tally.at) × (tally.records ≤ tally.at) × (tally.same ≤ tally.at) × (tally.at < length text.now) }
-    ensures { (tally.at < result.at) × (result.at ≤ length text.now) × (result.number ≤ result.at) × (result.records ≤ result.at) × (result.same ≤ result.at) }
+fn replay_line(text: &[u8], tally: Tally) -> Tally
+    requires number { tally.number ≤ tally.at }
+    requires records { tally.records ≤ tally.at }
+    requires same { tally.same ≤ tally.at }
+    requires inside { tally.at < length text.now }
+    ensures later { tally.at < result.at }
+    ensures inside { result.at ≤ length text.now }
+    ensures number { result.number ≤ result.at }
+    ensures records { result.records ≤ result.at }
+    ensures same { result.same ≤ result.at }
 {
     let at = tally.at;
     let end = lines::line_end(text, at);
     let next = lines::after_line(text, end);
-    let finding = finding_of(name, &text[at..end], tally.number + 1);
-    counted(tally, next, finding)
+    counted(tally, next, finding_of(&text[at..end]))
 }
 
-// Replays a file's text, line by line.
-fn replay_text(name: &[u8], text: &[u8]) {
+// Whether the line between two tallies is a record with another answer.
+fn is_different(before: Tally, after: Tally) -> bool {
+    before.records < after.records && after.same == before.same
+}
+
+// Replays a file's text, line by line. Where a line differs, that is written.
+fn replay_text(rt: &impl Print, name: &str, text: &[u8]) -> io::Result<()> {
     let mut tally = Tally {
         at: 0,
         number: 0,
@@ -113,26 +125,47 @@ fn replay_text(name: &[u8], text: &[u8]) {
         same: 0,
     };
     while tally.at < text.len() {
-        tally = replay_line(name, text, tally);
+        let after = replay_line(text, tally);
+        if is_different(tally, after) {
+            print_difference(rt, name, after.number)?;
+        }
+        tally = after;
     }
-    print_summary(name, tally.records, tally.same);
+    print_summary(rt, name, tally.records, tally.same)
+}
+
+// Reads until there is no more room, the file ends or a read fails, and answers how many bytes came.
+fn read_full(file: &mut impl Read, out: &mut [u8]) -> usize
+    ensures { result ≤ length out.new }
+{
+    let mut done: usize = 0;
+    while done < out.len() {
+        match file.read(&mut out[done..]) {
+            Ok(0) => return done,
+            Ok(n) => done += n,
+            Err(_) => return done,
+        }
+    }
+    done
+}
+
+// The first bytes of a file, as many as there is room for; none where it cannot be opened.
+fn read_file(rt: &impl Files, name: &str, out: &mut [u8]) -> Option<usize>
+    ensures { IfSome result (λ n. n ≤ length out.new) }
+{
+    match File::open(rt, name) {
+        Ok(mut file) => Some(read_full(&mut file, out)),
+        Err(_) => None,
+    }
 }
 
 // Reads a file, and replays it. The buffer has one byte more than the longest file, so that a longer one is seen.
-fn replay_file(name: &[u8]) {
-    let file = os::open_read(name);
-    if file < 0 {
-        print_unreadable(name);
-        return;
-    }
+fn replay_file(rt: &(impl Files + Print), name: &str) -> io::Result<()> {
     let mut buffer = [0u8; 65537];
-    let size = io::read_full(file, &mut buffer);
-    libc::close(file);
-    if LONGEST < size {
-        print_unreadable(name);
-        return;
+    match read_file(rt, name, &mut buffer) {
+        Some(size) if size <= LONGEST => replay_text(rt, name, &buffer[..size]),
+        _ => print_unreadable(rt, name),
     }
-    replay_text(name, &buffer[..size]);
 }
 
 // Document 01's "Numbers to hold it to": the rows that run. What each must answer is written here, from document 01.
@@ -307,51 +340,49 @@ fn seed_is_first(keys: &[u64], first: bool) -> bool {
 }
 
 // Writes what a row of document 01 is found to be.
-fn print_row(what: &[u8], same: bool) {
-    io::write_all(STDOUT_FILENO, what);
-    if same {
-        io::write_all(STDOUT_FILENO, b": same\n");
-    } else {
-        io::write_all(STDOUT_FILENO, b": differs\n");
-    }
+fn print_row(rt: &impl Print, what: &str, same: bool) -> io::Result<()> {
+    let found = if same { "same" } else { "differs" };
+    println!(rt; "{what}: {found}")
 }
 
-// Replays a row that a file holds the bytes of: a key list, or an image.
-fn replay_bytes(what: &[u8], name: &[u8], list: bool, first: bool) {
-    let file = os::open_read(name);
-    if file < 0 {
-        print_unreadable(name);
-        return;
-    }
+// What a row is that a file holds the bytes of: that an image opens at its own length alone, or that the keys of a list are built with
+// the first seed, or with a later one.
+#[derive(Clone, Copy)]
+enum Row {
+    Image,
+    FirstSeed,
+    LaterSeed,
+}
+
+// Replays a row that a file holds the bytes of.
+fn replay_bytes(rt: &(impl Files + Print), what: &str, name: &str, row: Row) -> io::Result<()> {
     let mut buffer = [0u8; 14007];
-    let size = io::read_full(file, &mut buffer);
-    libc::close(file);
-    let all: &[u8] = &buffer;
-    if all.len() < size {
-        print_unreadable(name);
-        return;
-    }
-    if list {
-        print_row(what, first_seed(&all[0..size], first));
-    } else {
-        print_row(what, assigned_lengths(&all[0..size]));
-    }
+    let Some(size) = read_file(rt, name, &mut buffer) else {
+        return print_unreadable(rt, name);
+    };
+    let bytes = &buffer[..size];
+    let same = match row {
+        Row::Image => assigned_lengths(bytes),
+        Row::FirstSeed => first_seed(bytes, true),
+        Row::LaterSeed => first_seed(bytes, false),
+    };
+    print_row(rt, what, same)
 }
 
 // Replays the rows of document 01 that run.
-fn replay_rows() {
-    print_row(b"one compact key", one_compact_key());
-    print_row(b"compact lengths", compact_lengths());
-    replay_bytes(b"assigned lengths", b"key7.bdz", false, false);
-    print_row(b"largest modulus", largest_modulus());
-    print_row(b"super counts", super_counts());
-    replay_bytes(b"degree 255", b"degree255.lst", true, true);
-    replay_bytes(b"degree 256", b"degree256.lst", true, false);
+fn replay_rows(rt: &(impl Files + Print)) -> io::Result<()> {
+    print_row(rt, "one compact key", one_compact_key())?;
+    print_row(rt, "compact lengths", compact_lengths())?;
+    replay_bytes(rt, "assigned lengths", "key7.bdz", Row::Image)?;
+    print_row(rt, "largest modulus", largest_modulus())?;
+    print_row(rt, "super counts", super_counts())?;
+    replay_bytes(rt, "degree 255", "degree255.lst", Row::FirstSeed)?;
+    replay_bytes(rt, "degree 256", "degree256.lst", Row::LaterSeed)
 }
 
 // Replays the published vectors, the answers of the Rust original, and the rows of document 01.
-fn main() {
-    replay_file(b"published.txt");
-    replay_file(b"rust.txt");
-    replay_rows();
+fn main(rt: HostRuntime) -> io::Result<()> {
+    replay_file(&rt, "published.txt")?;
+    replay_file(&rt, "rust.txt")?;
+    replay_rows(&rt)
 }
