@@ -1,7 +1,7 @@
 // Builds index.bdz from keys.lst. Prints only a refusal; a failure of the operating system goes to standard error.
 #![tactic(auto)]
 
-ghost use Rattle.std.specs.Prelude.{◌≡◌, ◌<◌, ◌≤◌, length, true};
+ghost use Rattle.std.specs.Prelude.{◌≡◌, ◌<◌, ◌≤◌, length, true, IfOk};
 ghost use Rattle.std.specs.Str.{IsAscii};
 
 use bdz_base::refusal::{ACCEPTED, NO_ROOM};
@@ -233,11 +233,7 @@ fn main(rt: HostRuntime) -> io::Result<()> {
     let n = read_file(&rt, "keys.lst", &mut list);
     let mut keys = [0u64; 1000];
     let mut values = [0u32; 1000];
-    let view: &[u8] = &list;
-    if view.len() < n {
-        return refuse(&rt, NO_ROOM);
-    }
-    let listed = read_list(&view[0..n], &mut keys, &mut values);
+    let listed = read_list(&list[0..n], &mut keys, &mut values);
     if listed.no != ACCEPTED {
         return refuse(&rt, listed.no);
     }
