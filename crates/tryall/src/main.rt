@@ -158,14 +158,11 @@ fn feed_all(
     order: &[u64],
     slots: &mut [u64],
 ) -> u32 {
-    let mut i: usize = 0;
-    while i < pages.len() {
-        let page = pages[i];
-        let no = feed_one(index, keys, table, page, order, slots);
+    for page in pages {
+        let no = feed_one(index, keys, table, *page, order, slots);
         if no != ACCEPTED {
             return no;
         }
-        i += 1;
     }
     ACCEPTED
 }
@@ -197,8 +194,7 @@ fn ask_all(
     slots: &[u64],
     answers: &mut [u32],
 ) -> u32 {
-    let mut i: usize = 0;
-    while i < keys.len() {
+    for i in 0..keys.len() {
         let asked = feed_ask(index, keys.len() as u64, keys, i as u64, occ, supers, slots);
         if asked.no != ACCEPTED {
             return asked.no;
@@ -207,7 +203,6 @@ fn ask_all(
             return NO_ROOM;
         }
         answers[i] = asked.answer;
-        i += 1;
     }
     ACCEPTED
 }
@@ -349,16 +344,12 @@ fn try_list(
     let mut file = [0u8; 270368];
     let kind = listed.kind;
     let held = read_file(rt, "index.bdz", &mut file);
-    let n = held.read;
-    let view: &[u8] = &file;
-    if view.len() < n {
-        return refuse(rt, NO_ROOM);
-    }
-    let opened = open_kind(kind, &view[0..n], held.len);
+    let bytes = &file[0..held.read];
+    let opened = open_kind(kind, bytes, held.len);
     if opened.no != ACCEPTED {
         return refuse(rt, opened.no);
     }
-    try_index(rt, opened.index, keys, values, &view[0..n])
+    try_index(rt, opened.index, keys, values, bytes)
 }
 
 fn main(rt: HostRuntime) -> io::Result<()> {
@@ -366,11 +357,7 @@ fn main(rt: HostRuntime) -> io::Result<()> {
     let n = read_file(&rt, "keys.lst", &mut list).read;
     let mut keys = [0u64; 1000];
     let mut values = [0u32; 1000];
-    let view: &[u8] = &list;
-    if view.len() < n {
-        return refuse(&rt, NO_ROOM);
-    }
-    let listed = read_list(&view[0..n], &mut keys, &mut values);
+    let listed = read_list(&list[0..n], &mut keys, &mut values);
     if listed.no != ACCEPTED {
         return refuse(&rt, listed.no);
     }
