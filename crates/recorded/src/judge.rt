@@ -191,10 +191,8 @@ fn words_of(values: &[u64; 100], words: usize) -> Words
         words: [0; 100],
         is_sound: true,
     };
-    let mut at: usize = 0;
-    while at < words {
+    for at in 0..words {
         taken = take_word(taken, at, values[3 + at]);
-        at += 1;
     }
     taken
 }
@@ -239,12 +237,10 @@ fn wide(byte: u8) -> u64 {
 fn same_bytes(values: &[u64; 100], start: usize, body: &[u8]) -> bool
     requires { start + length body.now ≤ 100 }
 {
-    let mut at: usize = 0;
-    while at < body.len() {
+    for at in 0..body.len() {
         if wide(body[at]) != values[start + at] {
             return false;
         }
-        at += 1;
     }
     true
 }
@@ -262,12 +258,10 @@ fn masked(word: u32, width: u32) -> u64
 fn same_words(words: &[u32], width: u32, body: &[u8]) -> bool
     requires { (length words.now ≤ 100) × (0 < width) × (width ≤ 32) }
 {
-    let mut at: usize = 0;
-    while at < words.len() {
+    for at in 0..words.len() {
         if unpack_g_at(body, at as u32, width) as u64 != masked(words[at], width) {
             return false;
         }
-        at += 1;
     }
     true
 }

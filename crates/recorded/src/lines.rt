@@ -22,14 +22,12 @@ pub(crate) fn line_end(text: &[u8], start: usize) -> usize
     requires { start ≤ length text.now }
     ensures { (start ≤ result) × (result ≤ length text.now) }
 {
-    let mut at = start;
-    while at < text.len() {
+    for at in start..text.len() {
         if text[at] == b'\n' {
             return at;
         }
-        at += 1;
     }
-    at
+    text.len()
 }
 
 // The place after a line that ends at `end`, past its newline if it has one.
@@ -142,10 +140,8 @@ pub(crate) fn read_record(line: &[u8]) -> Record
         is_sound: true,
         wants_digit: false,
     };
-    let mut at: usize = 1;
-    while at < line.len() {
+    for at in 1..line.len() {
         parsed = take_byte(parsed, line[at]);
-        at += 1;
     }
     if parsed.wants_digit {
         return refused(parsed);
