@@ -18,7 +18,8 @@ OLD = b"the index of last week"
 # how the starters end
 SAME, SOME_OTHER, REFUSED, FAILED = range(4)
 BUILT = SAME
-PARTS = ("bin/build_index", "bin/tryall", "tools/start", "tools/run", "target/bin/build_index", "target/bin/tryall")
+PROGRAMS = {name: os.path.join("crates", name, "out", name) for name in ("build_index", "tryall")}
+PARTS = ("bin/build_index", "bin/tryall", "tools/start", "tools/run", *PROGRAMS.values())
 failures = []
 runs = 0
 

@@ -3,7 +3,7 @@ import os
 import subprocess
 
 from images import ONE, assigned, header, lines, pairs_of
-from room import BUILT, FAILED, OLD, REFUSED, SAME, SOME_OTHER, Room, hold, missing, refused
+from room import BUILT, FAILED, OLD, PROGRAMS, REFUSED, SAME, SOME_OTHER, Room, hold, missing, refused
 from tracing import can_trace, traced
 
 FIVE = header(b"BDZ2", 1, 1, 1, 1, 6, 3) + b"\5"
@@ -56,7 +56,7 @@ def programs_that_die():
         with Room({"keys.lst": ONE, "index.bdz": FIVE}) as room:
             said = f"{program}: ended with status 1\n"
             hold(f"{program}, ended with a status", room.run(program, under="false"), ("", said, FAILED))
-            os.unlink(os.path.join(room.top, "target", "bin", program))
+            os.unlink(os.path.join(room.top, PROGRAMS[program]))
             said = f"{program}: not built yet: make programs\n"
             hold(f"{program}, not built", room.run(program), ("", said, FAILED))
     # nothing printed where two lines or a refusal are due
