@@ -1,7 +1,8 @@
 """Runs build_index and tryall, by their starters, on good, damaged and hostile files, each time in a folder of its own.
 
-What they must print, and the images made by hand, are worked out here from document 01. Both programs must have been built
-(tools/prove, or rt ci). Run as root, the programs run as nobody, so that a folder can be one that they may not write.
+What they must print, and the images made by hand, are worked out here from document 01. Both programs must have been
+built (tools/prove, or rt ci). Run as root, the programs run as nobody, so that a folder can be one that they may not
+write.
 """
 import sys
 

@@ -37,8 +37,8 @@ fn refuse(rt: &impl Print, no: u32) -> io::Result<()> {
     rt.write_all(b"\n")
 }
 
-// Tells standard error what the system said of a file, as "keys.lst: Permission denied": its words alone, without the number that std
-// puts behind them. Where standard error takes nothing, nobody is told.
+// Tells standard error what the system said of a file, as "keys.lst: Permission denied": its words alone, without the
+// number that std puts behind them. Where standard error takes nothing, nobody is told.
 fn tell(rt: &impl Eprint, path: &str, error: &io::Error) {
     let mut room = [0u8; 320];
     let mut rest: &mut [u8] = &mut room;
@@ -66,8 +66,8 @@ fn read_full(file: &mut impl Read, out: &mut [u8]) -> (usize, io::Result<()>)
     (done, Ok(()))
 }
 
-// A read that failed looks like the file's end; at the end one read more gives nothing. A file that only grew meanwhile is refused too,
-// and the system has no error for that but its number 0.
+// A read that failed looks like the file's end; at the end one read more gives nothing. A file that only grew meanwhile
+// is refused too, and the system has no error for that but its number 0.
 fn read_open(file: &mut impl Read, out: &mut [u8]) -> io::Result<usize>
     ensures { IfOk result (λ n. n ≤ length out.new) }
 {
@@ -104,14 +104,14 @@ fn read_file(rt: &(impl Files + Eprint), path: &str, out: &mut [u8]) -> usize
 
 // Whether both are the same bytes.
 fn same_bytes(a: &[u8], b: &[u8]) -> bool
-    ensures a_value { result ≡ true → a.now ≡ b.now }
-    ensures value { a.now ≡ b.now → result ≡ true }
+    ensures only_same { result ≡ true → a.now ≡ b.now }
+    ensures all_same { a.now ≡ b.now → result ≡ true }
 {
     a == b
 }
 
-// All bytes are written and stand on the disk, and the file is closed. std does not tell how the closing went, which comes after what
-// the disk said of the bytes, and before they are read back.
+// All bytes are written and stand on the disk, and the file is closed. std does not tell how the closing went, which
+// comes after what the disk said of the bytes, and before they are read back.
 fn put<F: Write + OpenFile + Drop>(file: F, bytes: &[u8]) -> io::Result<()> {
     let mut file = file;
     file.write_all(bytes)?;

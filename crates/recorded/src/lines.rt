@@ -7,7 +7,8 @@ const MOST: usize = 100;
 // Below this, a number takes one more hexadecimal digit.
 const DIGIT_FITS_BELOW: u64 = 0x1000_0000_0000_0000;
 
-// A record taken apart: its letter, its numbers, whether it is well formed so far, and whether its last number has no digit yet.
+// A record taken apart: its letter, its numbers, whether it is well formed so far, and whether its last number has no
+// digit yet.
 #[derive(Clone, Copy)]
 pub(crate) struct Record {
     pub(crate) letter: u8,

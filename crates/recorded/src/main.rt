@@ -1,4 +1,5 @@
-// Replays recorded answers: computes the answer of each line of two files again, and prints how many lines are the same.
+// Replays recorded answers: computes the answer of each line of two files again, and prints how many lines are the
+// same.
 #![tactic(auto)]
 
 mod judge;
@@ -22,7 +23,8 @@ use std::rt::Files;
 // The longest file that is read, in bytes.
 const LONGEST: usize = 65536;
 
-// Where the replay of a file stands: the place of the next line, and how many lines, records and equal records came before it.
+// Where the replay of a file stands: the place of the next line, and how many lines, records and equal records came
+// before it.
 #[derive(Clone, Copy)]
 struct Tally {
     at: usize,
@@ -345,8 +347,8 @@ fn print_row(rt: &impl Print, what: &str, same: bool) -> io::Result<()> {
     println!(rt; "{what}: {found}")
 }
 
-// What a row is that a file holds the bytes of: that an image opens at its own length alone, or that the keys of a list are built with
-// the first seed, or with a later one.
+// What a row is that a file holds the bytes of: that an image opens at its own length alone, or that the keys of a list
+// are built with the first seed, or with a later one.
 #[derive(Clone, Copy)]
 enum Row {
     Image,

@@ -1,5 +1,5 @@
-// Tries every listed key on the written image: reads keys.lst and index.bdz, feeds the pages of the file and prints two lines, or one
-// refusal. Nothing is printed before all answers are in.
+// Tries every listed key on the written image: reads keys.lst and index.bdz, feeds the pages of the file and prints two
+// lines, or one refusal. Nothing is printed before all answers are in.
 #![tactic(auto)]
 
 ghost use Rattle.std.specs.Prelude.{◌≤◌, length, IfOk};
@@ -38,8 +38,8 @@ fn refuse(rt: &impl Print, no: u32) -> io::Result<()> {
     rt.write_all(b"\n")
 }
 
-// Tells standard error what the system said of a file, as "keys.lst: Permission denied": its words alone, without the number that std
-// puts behind them. Where standard error takes nothing, nobody is told.
+// Tells standard error what the system said of a file, as "keys.lst: Permission denied": its words alone, without the
+// number that std puts behind them. Where standard error takes nothing, nobody is told.
 fn tell(rt: &impl Eprint, path: &str, error: &io::Error) {
     let mut room = [0u8; 320];
     let mut rest: &mut [u8] = &mut room;
@@ -74,9 +74,9 @@ struct Held {
     len: u64,
 }
 
-// A read that failed looks like the file's end; at the end one read more gives nothing. A file that only grew meanwhile is refused too,
-// and the system has no error for that but its number 0. Of a file longer than the room its end is asked for, through the same
-// descriptor.
+// A read that failed looks like the file's end; at the end one read more gives nothing. A file that only grew meanwhile
+// is refused too, and the system has no error for that but its number 0. Of a file longer than the room its end is
+// asked for, through the same descriptor.
 fn read_open<F: Read + Seek>(file: &mut F, out: &mut [u8]) -> io::Result<Held>
     ensures { IfOk result (λ held. held.read ≤ length out.new) }
 {
@@ -105,8 +105,8 @@ fn open_and_read(rt: &impl Files, path: &str, out: &mut [u8]) -> io::Result<Held
     read_open(&mut file, out)
 }
 
-// The bytes of a file, as many as there is room for, and its length, both through one descriptor. A file that cannot be read counts as
-// empty, and standard error says why.
+// The bytes of a file, as many as there is room for, and its length, both through one descriptor. A file that cannot be
+// read counts as empty, and standard error says why.
 fn read_file(rt: &(impl Files + Eprint), path: &str, out: &mut [u8]) -> Held
     ensures { result.read ≤ length out.new }
 {
@@ -247,7 +247,8 @@ fn right(index: Index, values: &[u32], answers: &[u32]) -> u64 {
     }
 }
 
-// A number that every answer is below: an answer is at most m, so past that n says nothing, and in an index of no keys it is 0.
+// A number that every answer is below: an answer is at most m, so past that n says nothing, and in an index of no keys
+// it is 0.
 fn above_answers(n: u32) -> u32 {
     if n == 0 {
         return 1;
@@ -266,7 +267,8 @@ fn count_supers(kind: Kind, m: u32, occ: &[u8], supers: &mut [u32]) -> u32 {
     }
 }
 
-// Every key on an opened image, whose parts bdz_image names. That they lie within the file is proved of every image that opens.
+// Every key on an opened image, whose parts bdz_image names. That they lie within the file is proved of every image
+// that opens.
 fn try_index(
     rt: &impl Print,
     index: Index,
