@@ -31,6 +31,5 @@ pub mod Runs
 pub mod Tries
 pub mod Turning
 pub mod TwoBuilt
-pub mod Walking
 pub mod Words
 pub mod Zeroing
