@@ -78,4 +78,4 @@ tried:
 
 # the static library that the Rust links, from proved code only
 library:
-	@tools/library | tail -n 1
+	@tools/library

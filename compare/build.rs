@@ -12,7 +12,7 @@ fn main() {
     println!("cargo:rustc-check-cfg=cfg(source_at_hand)");
     println!("cargo:rerun-if-changed=build.rs");
     name_source(&place("BDZ_SRC", "../../shared/docs/src").join(MODULE));
-    link_library(&place("BDZ_LIB", "../target/staticlib/libbdz_oracle.a"));
+    link_library(&place("BDZ_LIB", "../crates/bdz_oracle/out/libbdz_oracle.a"));
     link_cmph();
 }
 

@@ -1,31 +1,30 @@
 """Proof hygiene, in the gate: every definition and lemma is used or is a result that docs/ names, every file of definitions or proofs is
-cited, and every name that a file takes from another is used there. With --axioms, after a check from nothing: libraries rest on
-no axiom of their own or of C, and programs on those of libc and os that are listed here.
+cited, and every name that a file takes from another is used there. With --axioms, after the check: the libraries rest on no axiom, of
+their own or of C, and the programs on those functions of C that are listed here.
 
-A declaration is used where its name stands outside of its own declaration and clauses.
+A declaration is used where its name stands outside of its own declaration and clauses. What the check itself asks for of a function,
+its invariants and its answers, is used.
 """
 
 import collections
 import pathlib
 import re
+import subprocess
 import sys
 
 HOUSE = pathlib.Path(__file__).resolve().parent.parent
-DECLARED = re.compile(r"^(?:(?:abbrev|unfoldable|pub|record) )*([^\s:{(]+)(?: \(| \{| :)")
-HEAD = re.compile(r"(?:(?:abbrev|unfoldable|pub|record) )*([^\s:{(]+)")
+DECLARED = re.compile(r"^(?:(?:abbrev|unfoldable|pub|record|data|ruleset) )*([^\s:{(]+)(?: \(| \{| :)")
+HEAD = re.compile(r"(?:(?:abbrev|unfoldable|pub|record|data|ruleset) )*([^\s:{(]+)")
+ASKED = re.compile(r"(?:(?:abbrev|unfoldable|pub) )*([^\s:{(]+) : (\w+)\.\1$")
 NOT_DECLARED = ("use", "mod", "module")
 WORD = re.compile(r"\[\]|[^\s(){}\[\],;.«»]+")
 TAKEN = re.compile(r"^\s*(?:ghost )?(?:pub )?use ([^\s{]+?)(?:\.\{(.*)\}| as (\S+?))?;?$")
-# the functions of C whose contracts the kit's libc and os declare and a program rests on; its check prints the first three of each
-FILES = {"libc": ["close", "read", "write"], "os": ["rattle_open_to_read", "rattle_set_errno"]}
-AXIOMS = {
-    "recorded": FILES,
-    "tryall": {"libc": ["close", "lseek", "read", "write"], "os": ["__xpg_strerror_r", "rattle_errno", *FILES["os"]]},
-    "build_index": {
-        "libc": ["close", "fsync", "getentropy", "read", "rename", "unlink", "write"],
-        "os": ["__xpg_strerror_r", "rattle_errno", "rattle_open_new", *FILES["os"]],
-    },
-}
+# the files of a function's own proof, which stand in a folder of its name
+OWN = ("Answers.antt", "Invariants.antt", "Proof.antt")
+# what of std the libraries name: plain numbers, below which there is no C
+STD = re.compile(r"\bstd::(?!num\b)\w+|\b(?:HostRuntime|Global|extern \"C\" \{)")
+# the functions of C, as the kit's libc, os and std declare them, that a program rests on
+AXIOMS = {}
 
 
 class File:
@@ -39,6 +38,10 @@ class File:
         self.taken = [found for found in map(TAKEN.match, lines) if found]
         self.lines = [line for line in lines if not TAKEN.match(line)]
         self.words = set(WORD.findall("\n".join(self.lines)))
+        # what the check asks for stands at a type of the function's goals
+        goals = [found.group(3) for found in self.taken if found.group(3) and found.group(1).endswith((".Goals", ".Given"))]
+        heads = [ASKED.match(line) for line in self.lines]
+        self.asked = {head.group(1) for head in heads if head and head.group(2) in goals}
 
     def declared(self):
         """The names at the left edge, each with how many lines of its own it stands in: its head, its clauses and what belongs to them."""
@@ -59,8 +62,8 @@ class File:
             module, names, other = found.groups()
             for name in [other] if other else (names or "").split(", "):
                 own = name.split(" as ")[-1]
-                parts = [part for part in own.split("_") if part] if own.startswith("_") or own.endswith("_") else [own]
-                if own and not all(part in self.words for part in parts):
+                parts = [part for part in own.split("◌") if part]
+                if own and own not in self.words and not all(part in self.words for part in parts):
                     yield f"{self.name}: {own} of {module} is taken and not used"
 
 
@@ -69,9 +72,15 @@ def files():
     return [File(path) for kind in kinds for path in sorted(kind.rglob("*")) if path.suffix in (".antt", ".rt")]
 
 
+def is_own(file):
+    """Whether it is of a function's own proof."""
+    return file.path.name in OWN and file.path.parent.name != "proofs"
+
+
 def is_result(file, name, told):
-    """What nothing need cite: a proof of a function, which the check itself asks for, and a theorem that docs/ names."""
-    return file.path.name == "Proof.antt" and name.endswith("-spec") or f"`{name}`" in told or file.path.name == "OneAnswer.antt"
+    """What nothing need cite: what the check itself asks for of a function, and a theorem that docs/ names."""
+    asked = f"{file.path.parent.name}_spec" == name or name in file.asked
+    return is_own(file) and asked or f"`{name}`" in told or file.path.name == "OneAnswer.antt"
 
 
 def faults():
@@ -87,18 +96,38 @@ def faults():
             if standing[name] <= own and not is_result(file, name, told):
                 yield f"{file.name}: {name} is used nowhere"
         stem = file.path.stem
-        if stem != "Proof" and stem not in modules and f"{stem}:" not in told and f" {stem}" not in told:
+        if not is_own(file) and stem not in modules and f"{stem}:" not in told and f" {stem}" not in told:
             yield f"{file.name}: nothing cites it"
 
 
+def crates():
+    """Each crate of crates.txt, with whether it is one that is linked: a program or a static library."""
+    for line in (HOUSE / "crates.txt").read_text().split("\n"):
+        head = line.partition("#")[0].partition(":")[0].split()
+        if head:
+            folder = HOUSE / "crates" / head[0]
+            yield folder, "staticlib" in head or (folder / "src" / "main.rt").exists()
+
+
 def axiom_faults():
-    """What the check of each crate from nothing said that it rests on."""
-    for log in sorted((HOUSE / "target" / "log").glob("*.out")):
-        told = re.findall(r"^axioms (\w+): (.*?),? (?:\.\.\. )?\((\d+) of the \d+ declared\)$", log.read_text(), re.M)
-        found = {name: ([word.split("::")[-1] for word in words.split(", ")], int(count)) for name, words, count in told}
-        expected = {name: (words[:3], len(words)) for name, words in AXIOMS.get(log.stem, {}).items()}
-        if found != expected:
-            yield f"{log.stem} rests on {found}, and not on {expected}"
+    """What the check of each linked crate says that it rests on, of all that it stands on; a library is not linked, and names nothing that could."""
+    for folder, linked in crates():
+        if not linked:
+            named = {word for path in sorted((folder / "src").rglob("*.rt")) for word in STD.findall(path.read_text())}
+            if named:
+                yield f"{folder.name} names {', '.join(sorted(named))}"
+            continue
+        ran = subprocess.run(["rt", "check", "--list-axioms"], cwd=folder, capture_output=True, text=True)
+        if ran.returncode != 0:
+            yield f"{folder.name} is not proved"
+            continue
+        told = re.findall(r"^axioms (\w+): (\w+) reached of the \d+ declared$((?:\n  \S.*)*)", ran.stdout, re.M)
+        found = {name: re.findall(r"^  (\S+)   reached$", lines, re.M) for name, _, lines in told}
+        if not told or any(count != (str(len(found[name])) if found[name] else "none") for name, count, _ in told):
+            yield f"{folder.name}: what it rests on is told in another form"
+        found = {name: [word.split("::")[-1] for word in words] for name, words in found.items() if words}
+        if found != AXIOMS.get(folder.name, {}):
+            yield f"{folder.name} rests on {found}, and not on {AXIOMS.get(folder.name, {})}"
 
 
 def main():

@@ -1,11 +1,11 @@
 """Tries wrong code: each edit of tools/tried makes a public function answer wrongly, and the check must then refuse its proof.
 
 An edit is `function: the wrong answer`, the file, the lines taken out (-) and those put in (+); or `must-fail NAME` where it stands
-among the crate's must-fail edits. It is made in a copy of the checkout, where `rt dev` must fail at a fact that no longer holds, and
-not merely at a proof that names what the code no longer has. What was seen goes into docs/TRIED.md, a section a crate; crates'
-names as arguments try only these, and --new only the edits that the page has no row for. Fails where a public function has no two
-edits, or an edit is not refused. With --check nothing is tried: the page must have a row for every edit, and every public function
-two edits.
+among the crate's must-fail edits. It is made in a copy of the checkout, where `rt check` of the crate must fail at a fact that no
+longer holds, and not merely at a proof that names what the code no longer has. What was seen goes into docs/TRIED.md, a section a
+crate; crates' names as arguments try only these, and --new only the edits that the page has no row for, or one that was seen with the
+older kit. Fails where a public function has no two edits, or an edit is not refused. With --check nothing is tried: the page must have
+a row for every edit, every public function two edits, and every edit must fit its file.
 """
 
 import os
@@ -27,8 +27,16 @@ For every public function two wrong answers or more, each tried by an edit of th
 """
 FUNCTION = re.compile(r" *(?:pub(?:\(crate\))? )?(?:extern \"C\" )?fn (\w+)")
 PUBLIC = re.compile(r" *pub (?:extern \"C\" )?fn (\w+)", re.M)
+# what is left for a function's own proof, at its place in the code
+LEFT = re.compile(r"^note: (?:\./)?(src/(\S+)\.rt):(\d+):\d+: .*? \(`([^`]+)`\)", re.M)
+# what a file of proofs does not show
+FALLEN = re.compile(r"^(?:\./)?proofs/(\S+)\.antt:\d+:\d+: error: `([^`]+)`: (.*)", re.M)
+# the files of a function's own proof
+OWN = re.compile(r"/(?:Answers|Invariants|Proof)$")
 # a name of the proof that the edited code no longer has, or one that it has more
-UNFIT = re.compile(r"has no `|no field|expected a function|too many|too few")
+UNFIT = re.compile(r"has no `|no field|is not in scope|expected a function|too many|too few")
+# the mark of a row whose edit was last seen refused by the kit before this one
+OLDER = " (older kit)"
 
 
 class Edit:
@@ -41,18 +49,24 @@ class Edit:
         if self.kept:
             self.read_kept(self.path.removeprefix("must-fail "))
         else:
-            self.old = "\n".join(line[2:] for line in lines if line.startswith("- "))
-            self.new = "\n".join(line[2:] for line in lines if line.startswith("+ "))
+            self.pairs = [tuple("\n".join(line[2:] for line in lines if line.startswith(mark)) for mark in ("- ", "+ "))]
 
     def read_kept(self, name):
         text = (HOUSE / "crates" / self.crate / "must-fail" / f"{name}.edit").read_text()
-        self.path, self.old, self.new = re.fullmatch(r"file: (.*)\nold: (.*)\nnew: (.*)\n*", text).groups()
+        self.path = re.search(r"^file: (.*)$", text, re.M).group(1)
+        self.pairs = re.findall(r"^old: (.*)\nnew: ?(.*)$", text, re.M)
         self.wrong = f"**{self.wrong}**"
 
     def applied_to(self, text):
-        if text.count(self.old) != 1:
-            raise SystemExit(f"{self.function}: {self.old!r} stands {text.count(self.old)} times in {self.path}")
-        return text.replace(self.old, self.new)
+        for old, new in self.pairs:
+            if text.count(old) != 1:
+                raise SystemExit(f"{self.function}: {old!r} stands {text.count(old)} times in {self.path} of {self.crate}")
+            text = text.replace(old, new)
+        return text
+
+    def fits(self):
+        """Fails where it cannot be made."""
+        self.applied_to((HOUSE / "crates" / self.crate / self.path).read_text())
 
     def row(self):
         """Its row of the page, up to what was seen."""
@@ -60,7 +74,7 @@ class Edit:
 
     def told(self):
         """The lines that change, each by what it becomes."""
-        pairs = zip(self.old.split("\n"), self.new.split("\n"))
+        pairs = [pair for old, new in self.pairs for pair in zip(old.split("\n"), new.split("\n"))]
         changes = ["`{}` becomes `{}`".format(*shortened(old.strip(), new.strip())) for old, new in pairs if old != new]
         return f"{self.path}: {'; '.join(changes)}".replace("|", "\\|")
 
@@ -69,7 +83,10 @@ def check():
     """Whether the page speaks of just the edits that there are."""
     rows = [line.rsplit("|", 2)[0] + "|" for line in PAGE.read_text().split("\n") if line.startswith("| ")]
     listed = [row for row in rows if not row.startswith("| function ")]
-    if listed != [edit.row() for crate in CRATES for edit in edits_of(crate)]:
+    edits = [edit for crate in CRATES for edit in edits_of(crate)]
+    for edit in edits:
+        edit.fits()
+    if listed != [edit.row() for edit in edits]:
         raise SystemExit("docs/TRIED.md does not list the edits of tools/tried: make tried")
 
 
@@ -92,43 +109,43 @@ def edits_of(crate):
     return edits
 
 
-def dev(house, crate):
-    ran = subprocess.run(["rt", "dev", crate], cwd=house, capture_output=True, text=True)
+def proved(house, crate):
+    ran = subprocess.run(["rt", "check"], cwd=house / "crates" / crate, capture_output=True, text=True)
     return ran.returncode, ran.stdout + ran.stderr
 
 
 def function_at(path, line):
     """The function whose head stands at a line, below an attribute there, or last above it."""
-    lines, at = pathlib.Path(path).read_text().split("\n"), int(line)
+    lines, at = path.read_text().split("\n"), int(line)
     while lines[at - 1].lstrip().startswith("#["):
         at += 1
     return [found.group(1) for found in map(FUNCTION.match, lines[:at]) if found][-1]
 
 
-def first_refused(output):
+def first_refused(folder, output):
     """Where the check stopped: the function or lemma, and the fact; None where it was a proof that no longer fits."""
-    by_itself = re.search(r"^note: (\S+/src/(\S+)\.rt):(\d+):\d+: .* \(`([\w-]+)`\)", output, re.M)
-    if by_itself:
-        path, module, line, fact = by_itself.groups()
-        return f"{module}/{function_at(path, line)}, `{fact}`"
+    left = LEFT.search(output)
+    if left:
+        path, module, line, fact = left.groups()
+        return f"{module}/{function_at(folder / path, line)}, `{fact}`"
     # what a function's own proof says comes before what else speaks of its promise
-    errors = re.findall(r"^\S+/proofs/(\S+)\.antt:\d+:\d+: error: `([\w-]+)`: (.*)", output, re.M)
-    for module, fact, said in sorted(errors, key=lambda error: not error[0].endswith("/Proof")):
+    for module, fact, said in sorted(FALLEN.findall(output), key=lambda error: not OWN.search(error[0])):
         if UNFIT.search(said):
             return None
         if "was not admitted" not in said:
-            return f"{module.removesuffix('/Proof')}, `{fact}`"
+            return f"{OWN.sub('', module)}, `{fact}`"
     return None
 
 
 def seen(house, edit):
     """Where the check refuses the edited code."""
-    file = house / "crates" / edit.crate / edit.path
+    folder = house / "crates" / edit.crate
+    file = folder / edit.path
     whole = file.read_text()
     file.write_text(edit.applied_to(whole))
-    status, output = dev(house, edit.crate)
+    status, output = proved(house, edit.crate)
+    place = first_refused(folder, output) if status == 1 else None
     file.write_text(whole)
-    place = first_refused(output) if status != 0 else None
     if place is None:
         print(f"{edit.function}: {edit.wrong}: {'not refused' if status == 0 else 'refused at no fact'}\n{output[:1500]}", flush=True)
     return place
@@ -137,7 +154,7 @@ def seen(house, edit):
 def section(house, crate, known):
     """The rows of a crate, of which some are known, and whether each edit was refused at a fact."""
     edits = edits_of(crate)
-    if any(edit.row() not in known for edit in edits) and dev(house, crate)[0] != 0:
+    if any(edit.row() not in known for edit in edits) and proved(house, crate)[0] != 0:
         raise SystemExit(f"{crate} is not proved as it stands")
     rows, held = [], True
     for edit in edits:
@@ -157,13 +174,13 @@ def main():
         return check()
     crates = [word for word in sys.argv[1:] if word != "--new"] or CRATES
     lines = PAGE.read_text().split("\n") if "--new" in sys.argv[1:] else []
-    known = {line.rsplit("|", 2)[0] + "|": line for line in lines if line.startswith("| ")}
+    known = {line.rsplit("|", 2)[0] + "|": line for line in lines if line.startswith("| ") and not line.endswith(f"{OLDER} |")}
     parts = dict(re.findall(r"^(## (?:\w+))\n(.*?)(?=^## |\Z)", PAGE.read_text() if PAGE.exists() else "", re.M | re.S))
     parts = {name.removeprefix("## "): f"{name}\n{rows.rstrip()}\n" for name, rows in parts.items()}
     held = True
     with tempfile.TemporaryDirectory() as folder:
         house = pathlib.Path(folder) / "house"
-        shutil.copytree(HOUSE, house, symlinks=True, ignore=shutil.ignore_patterns(".git"))
+        shutil.copytree(HOUSE, house, symlinks=True, ignore=shutil.ignore_patterns(".git", "out", "target"))
         for crate in crates:
             parts[crate], good = section(house, crate, known)
             held = held and good
