@@ -23,7 +23,7 @@ PAGE = HOUSE / "docs" / "TRIED.md"
 CONTEXT = 50
 HEAD = """# Tried
 
-For every public function two wrong answers or more, each tried by an edit of the code and seen refused. Made by `make tried` (tools/tried.py, tools/tried/). The last column is the first fact that the check could not show of the edited code: the function or lemma, and the fact's name in its proof. `returns` is the promise itself, at one of the places where the function returns; `exits` is that of a walk; `requires` what a function that it calls asks for; `loop-again` that a loop keeps what it keeps. Where a proof is a walk, which follows the code step by step, it is the promise that is edited, and not the code: what the code does is then the wrong answer. Edits in bold are must-fail edits, which every gate tries again.
+For every public function two wrong answers or more, each tried by an edit of the code and seen refused. Made by `make tried` (tools/tried.py, tools/tried/). The last column is the first fact that the check could not show of the edited code: the function or lemma, and the fact's name in its proof. `returns` and `returns-..` are the promise itself, at one of the places where the function returns; `F-requires` is what the function F that it calls asks for; `loop-i-preserved` that the loop over i keeps what it keeps. Edits in bold are must-fail edits, which every gate tries again.
 """
 FUNCTION = re.compile(r" *(?:pub(?:\(crate\))? )?(?:extern \"C\" )?fn (\w+)")
 PUBLIC = re.compile(r" *pub (?:extern \"C\" )?fn (\w+)", re.M)
@@ -37,6 +37,7 @@ OWN = re.compile(r"/(?:Answers|Invariants|Proof)$")
 UNFIT = re.compile(r"has no `|no field|is not in scope|expected a function|too many|too few")
 # the mark of a row whose edit was last seen refused by the kit before this one
 OLDER = " (older kit)"
+OLDER_HEAD = "A row marked (older kit) was tried with the kit before this one, where facts had other names, and not since.\n"
 
 
 class Edit:
@@ -169,6 +170,11 @@ def section(house, crate, known):
     return "\n".join([f"## {crate}\n", head, *rows, ""]), held
 
 
+def page(parts):
+    rows = [parts[crate] for crate in CRATES if crate in parts]
+    return "\n".join([HEAD, *([OLDER_HEAD] if any(OLDER in part for part in rows) else []), *rows])
+
+
 def main():
     if sys.argv[1:] == ["--check"]:
         return check()
@@ -185,7 +191,7 @@ def main():
             parts[crate], good = section(house, crate, known)
             held = held and good
             if good:
-                PAGE.write_text("\n".join([HEAD, *(parts[name] for name in CRATES if name in parts)]))
+                PAGE.write_text(page(parts))
     sys.exit(not held)
 
 
