@@ -1,7 +1,8 @@
 """Tries wrong code: each edit of tools/tried makes a public function answer wrongly, and the check must then refuse its proof.
 
 An edit is `function: the wrong answer`, the file, the lines taken out (-) and those put in (+); or `must-fail NAME` where it stands
-among the crate's must-fail edits. It is made in a copy of the checkout, where `rt check` of the crate must fail at a fact that no
+among the crate's must-fail edits. A fact's name can hold the test that an edit changes: a line `~ OLD NEW` then has the names in the
+proof of the changed function follow. It is made in a copy of the checkout, where `rt check` of the crate must fail at a fact that no
 longer holds, and not merely at a proof that names what the code no longer has. What was seen goes into docs/TRIED.md, a section a
 crate; crates' names as arguments try only these, and --new only the edits that the page has no row for, or one that was seen with the
 older kit. Fails where a public function has no two edits, or an edit is not refused. With --check nothing is tried: the page must have
@@ -47,27 +48,53 @@ class Edit:
         head, self.path, *lines = block.strip("\n").split("\n")
         self.function, self.wrong = head.split(": ", 1)
         self.crate, self.kept = crate, self.path.startswith("must-fail ")
+        self.names = [tuple(line[2:].split(" ")) for line in lines if line.startswith("~ ")]
         if self.kept:
             self.read_kept(self.path.removeprefix("must-fail "))
         else:
-            self.pairs = [tuple("\n".join(line[2:] for line in lines if line.startswith(mark)) for mark in ("- ", "+ "))]
+            old, new = ("\n".join(line[2:] for line in lines if line.startswith(mark)) for mark in ("- ", "+ "))
+            self.pairs = [(self.path, old, new)]
 
     def read_kept(self, name):
-        text = (HOUSE / "crates" / self.crate / "must-fail" / f"{name}.edit").read_text()
-        self.path = re.search(r"^file: (.*)$", text, re.M).group(1)
-        self.pairs = re.findall(r"^old: (.*)\nnew: ?(.*)$", text, re.M)
-        self.wrong = f"**{self.wrong}**"
+        self.pairs, self.wrong = [], f"**{self.wrong}**"
+        for line in (HOUSE / "crates" / self.crate / "must-fail" / f"{name}.edit").read_text().split("\n"):
+            mark, _, text = line.partition(":")
+            if mark == "file":
+                path = text.strip()
+            elif mark == "old":
+                old = text.removeprefix(" ")
+            elif mark == "new":
+                self.pairs.append((path, old, text.removeprefix(" ")))
+        self.path = self.pairs[0][0]
 
-    def applied_to(self, text):
-        for old, new in self.pairs:
+    def edited(self, folder):
+        """The files of the crate in the folder that it changes, each with its new text."""
+        texts = {}
+        for path, old, new in self.pairs:
+            text = texts.get(path) or (folder / path).read_text()
             if text.count(old) != 1:
-                raise SystemExit(f"{self.function}: {old!r} stands {text.count(old)} times in {self.path} of {self.crate}")
-            text = text.replace(old, new)
-        return text
+                raise SystemExit(f"{self.function}: {old!r} stands {text.count(old)} times in {path} of {self.crate}")
+            texts[path] = text.replace(old, new)
+        for old, new in self.names:
+            name, found = re.compile(rf"(?<!\w){re.escape(old)}(?!\w)"), False
+            for path in self.proof(folder):
+                text = texts.get(path) or (folder / path).read_text()
+                found = found or bool(name.search(text))
+                texts[path] = name.sub(new, text)
+            if not found:
+                raise SystemExit(f"{self.function}: {self.wrong}: its proof has no name with {old}")
+        return texts
+
+    def proof(self, folder):
+        """The files of the proof of the function that it changes."""
+        whole, old = (folder / self.path).read_text(), self.pairs[0][1]
+        changed = function_at(whole, whole[: whole.index(old)].count("\n") + 1 + first_change(old, self.pairs[0][2]))
+        module = folder / "proofs" / pathlib.Path(self.path).with_suffix("").relative_to("src")
+        return [str(path.relative_to(folder)) for path in sorted(module.rglob("*.antt")) if path.parent.name == changed]
 
     def fits(self):
         """Fails where it cannot be made."""
-        self.applied_to((HOUSE / "crates" / self.crate / self.path).read_text())
+        self.edited(HOUSE / "crates" / self.crate)
 
     def row(self):
         """Its row of the page, up to what was seen."""
@@ -75,7 +102,7 @@ class Edit:
 
     def told(self):
         """The lines that change, each by what it becomes."""
-        pairs = [pair for old, new in self.pairs for pair in zip(old.split("\n"), new.split("\n"))]
+        pairs = [pair for path, old, new in self.pairs if path == self.path for pair in zip(old.split("\n"), new.split("\n"))]
         changes = ["`{}` becomes `{}`".format(*shortened(old.strip(), new.strip())) for old, new in pairs if old != new]
         return f"{self.path}: {'; '.join(changes)}".replace("|", "\\|")
 
@@ -115,24 +142,30 @@ def proved(house, crate):
     return ran.returncode, ran.stdout + ran.stderr
 
 
-def function_at(path, line):
+def first_change(old, new):
+    """How many lines both begin with."""
+    return next(at for at, (a, b) in enumerate(zip(old.split("\n"), new.split("\n"))) if a != b)
+
+
+def function_at(text, line):
     """The function whose head stands at a line, below an attribute there, or last above it."""
-    lines, at = path.read_text().split("\n"), int(line)
+    lines, at = text.split("\n"), int(line)
     while lines[at - 1].lstrip().startswith("#["):
         at += 1
     return [found.group(1) for found in map(FUNCTION.match, lines[:at]) if found][-1]
 
 
 def first_refused(folder, output):
-    """Where the check stopped: the function or lemma, and the fact; None where it was a proof that no longer fits."""
+    """Where the check stopped: the function or lemma, and the fact; None where a proof no longer fits, or nothing fell."""
+    fallen = FALLEN.findall(output)
+    if any(UNFIT.search(said) for _, _, said in fallen):
+        return None
     left = LEFT.search(output)
     if left:
         path, module, line, fact = left.groups()
-        return f"{module}/{function_at(folder / path, line)}, `{fact}`"
+        return f"{module}/{function_at((folder / path).read_text(), line)}, `{fact}`"
     # what a function's own proof says comes before what else speaks of its promise
-    for module, fact, said in sorted(FALLEN.findall(output), key=lambda error: not OWN.search(error[0])):
-        if UNFIT.search(said):
-            return None
+    for module, fact, said in sorted(fallen, key=lambda error: not OWN.search(error[0])):
         if "was not admitted" not in said:
             return f"{OWN.sub('', module)}, `{fact}`"
     return None
@@ -141,14 +174,18 @@ def first_refused(folder, output):
 def seen(house, edit):
     """Where the check refuses the edited code."""
     folder = house / "crates" / edit.crate
-    file = folder / edit.path
-    whole = file.read_text()
-    file.write_text(edit.applied_to(whole))
+    edited = edit.edited(folder)
+    whole = {path: (folder / path).read_text() for path in edited}
+    for path, text in edited.items():
+        (folder / path).write_text(text)
     status, output = proved(house, edit.crate)
     place = first_refused(folder, output) if status == 1 else None
-    file.write_text(whole)
+    for path, text in whole.items():
+        (folder / path).write_text(text)
     if place is None:
-        print(f"{edit.function}: {edit.wrong}: {'not refused' if status == 0 else 'refused at no fact'}\n{output[:1500]}", flush=True)
+        told = "not refused" if status == 0 else "refused at no fact"
+        said = [line for line in output.split("\n") if "error" in line or line.startswith("note: src/")]
+        print("\n".join([f"{edit.function}: {edit.wrong}: {told}", *said[:20]]), flush=True)
     return place
 
 
