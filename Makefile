@@ -18,7 +18,7 @@ help:
 	@echo 'make bench-cmph    times beside libcmph, where it is installed'
 	@echo 'make benchmarks    both, and docs/BENCHMARKS.md with them'
 	@echo 'make drawings      the drawings of docs/, made anew'
-	@echo 'make tried         wrong code for every public function, which the check must refuse: docs/TRIED.md, made anew (half an hour)'
+	@echo 'make tried         wrong code for every public function, which the check must refuse: docs/TRIED.md, made anew (an hour)'
 
 # everything that a merge needs: layout, proofs, must-fail edits, programs, and the comparison with the Rust
 test:

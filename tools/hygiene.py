@@ -23,8 +23,12 @@ TAKEN = re.compile(r"^\s*(?:ghost )?(?:pub )?use ([^\s{]+?)(?:\.\{(.*)\}| as (\S
 OWN = ("Answers.antt", "Invariants.antt", "Proof.antt")
 # what of std the libraries name: plain numbers, below which there is no C
 STD = re.compile(r"\bstd::(?!num\b)\w+|\b(?:HostRuntime|Global|extern \"C\" \{)")
-# the functions of C, as the kit's libc, os and std declare them, that a program rests on
-AXIOMS = {}
+# the functions of C that a program rests on, as the kit's libc and os declare them: of files std takes them all, whichever are called
+LIBC = """bind chmod chown close fchmod fdatasync flock fsync ftruncate futimens lchown link lseek mkdir pipe2 read readlink realpath
+    rename rmdir statx symlink unlink write""".split()
+OS = "__xpg_strerror_r fcntl getdents64 open rattle_errno rattle_open_dir_at rattle_set_errno unlinkat".split()
+FILES = {"libc": LIBC, "os": OS}
+AXIOMS = {"recorded": FILES, "tryall": FILES, "build_index": {"libc": sorted([*LIBC, "getentropy"]), "os": OS}}
 
 
 class File:
@@ -125,7 +129,7 @@ def axiom_faults():
         found = {name: re.findall(r"^  (\S+)   reached$", lines, re.M) for name, _, lines in told}
         if not told or any(count != (str(len(found[name])) if found[name] else "none") for name, count, _ in told):
             yield f"{folder.name}: what it rests on is told in another form"
-        found = {name: [word.split("::")[-1] for word in words] for name, words in found.items() if words}
+        found = {name: sorted(word.split("::")[-1] for word in words) for name, words in found.items() if words}
         if found != AXIOMS.get(folder.name, {}):
             yield f"{folder.name} rests on {found}, and not on {AXIOMS.get(folder.name, {})}"
 
