@@ -160,15 +160,13 @@ def first_refused(folder, output):
     fallen = FALLEN.findall(output)
     if any(UNFIT.search(said) for _, _, said in fallen):
         return None
-    left = LEFT.search(output)
-    if left:
-        path, module, line, fact = left.groups()
-        return f"{module}/{function_at((folder / path).read_text(), line)}, `{fact}`"
+    places = [(f"{module}/{function_at((folder / path).read_text(), line)}", fact) for path, module, line, fact in LEFT.findall(output)]
     # what a function's own proof says comes before what else speaks of its promise
-    for module, fact, said in sorted(fallen, key=lambda error: not OWN.search(error[0])):
-        if "was not admitted" not in said:
-            return f"{OWN.sub('', module)}, `{fact}`"
-    return None
+    fallen.sort(key=lambda error: not OWN.search(error[0]))
+    places += [(OWN.sub("", module), fact) for module, fact, said in fallen if "was not admitted" not in said]
+    # that a number has room says least of what is answered
+    places.sort(key=lambda place: place[1].startswith("overflow_"))
+    return "{}, `{}`".format(*places[0]) if places else None
 
 
 def seen(house, edit):
