@@ -4,9 +4,9 @@ An edit is `function: the wrong answer`, the file, the lines taken out (-) and t
 among the crate's must-fail edits. A fact's name can hold the test that an edit changes: a line `~ OLD NEW` then has the names in the
 proof of the changed function follow. It is made in a copy of the checkout, where `rt check` of the crate must fail at a fact that no
 longer holds, and not merely at a proof that names what the code no longer has. What was seen goes into docs/TRIED.md, a section a
-crate; crates' names as arguments try only these, and --new only the edits that the page has no row for, or one that was seen with the
-older kit. Fails where a public function has no two edits, or an edit is not refused. With --check nothing is tried: the page must have
-a row for every edit, every public function two edits, and every edit must fit its file.
+crate; crates' names as arguments try only these, and --new only the edits that the page has no row for. Fails where a public function
+has no two edits, or an edit is not refused. With --check nothing is tried: the page must have a row for every edit, every public
+function two edits, and every edit must fit its file.
 """
 
 import os
@@ -36,9 +36,6 @@ FALLEN = re.compile(r"^(?:\./)?proofs/(\S+)\.antt:\d+:\d+: error: `([^`]+)`: (.*
 OWN = re.compile(r"/(?:Answers|Invariants|Proof)$")
 # a name of the proof that the edited code no longer has, or one that it has more
 UNFIT = re.compile(r"has no `|no field|is not in scope|expected a function|too many|too few")
-# the mark of a row whose edit was last seen refused by the kit before this one
-OLDER = " (older kit)"
-OLDER_HEAD = "A row marked (older kit) was tried with the kit before this one, where facts had other names, and not since.\n"
 
 
 class Edit:
@@ -205,17 +202,12 @@ def section(house, crate, known):
     return "\n".join([f"## {crate}\n", head, *rows, ""]), held
 
 
-def page(parts):
-    rows = [parts[crate] for crate in CRATES if crate in parts]
-    return "\n".join([HEAD, *([OLDER_HEAD] if any(OLDER in part for part in rows) else []), *rows])
-
-
 def main():
     if sys.argv[1:] == ["--check"]:
         return check()
     crates = [word for word in sys.argv[1:] if word != "--new"] or CRATES
     lines = PAGE.read_text().split("\n") if "--new" in sys.argv[1:] else []
-    known = {line.rsplit("|", 2)[0] + "|": line for line in lines if line.startswith("| ") and not line.endswith(f"{OLDER} |")}
+    known = {line.rsplit("|", 2)[0] + "|": line for line in lines if line.startswith("| ")}
     parts = dict(re.findall(r"^(## (?:\w+))\n(.*?)(?=^## |\Z)", PAGE.read_text() if PAGE.exists() else "", re.M | re.S))
     parts = {name.removeprefix("## "): f"{name}\n{rows.rstrip()}\n" for name, rows in parts.items()}
     held = True
@@ -226,7 +218,7 @@ def main():
             parts[crate], good = section(house, crate, known)
             held = held and good
             if good:
-                PAGE.write_text(page(parts))
+                PAGE.write_text("\n".join([HEAD, *(parts[name] for name in CRATES if name in parts)]))
     sys.exit(not held)
 
 
