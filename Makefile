@@ -3,7 +3,7 @@ SHELL := /bin/bash
 .SHELLFLAGS := -euo pipefail -c
 RUST := cargo run --release --quiet --manifest-path compare/Cargo.toml --bin
 
-.PHONY: help test programs compare compare-long compare-huge attack record bench bench-cmph benchmarks demo drawings tried walks library
+.PHONY: help test programs compare compare-long compare-huge attack record bench bench-cmph benchmarks demo drawings tried library
 
 help:
 	@echo 'make test          everything that a merge needs: proofs, must-fail edits, programs, comparison with the Rust, attack'
@@ -75,10 +75,6 @@ drawings:
 # wrong code for every public function, and where the check refuses it
 tried:
 	python3 tools/tried.py
-
-# whether the printed walks are what their generator prints
-walks:
-	python3 tools/walks/walks.py --check
 
 # the static library that the Rust links, from proved code only
 library:
