@@ -82,6 +82,7 @@ fn give_bytes(carry: Carry, body: &mut [u8]) -> Carry
 }
 
 // What is left of the carry: whole bytes, and one that is padded with zeros.
+#[tactic(auto, using(crate::proofs::Packing::rest_whole, crate::proofs::Packing::rest_padded))]
 fn give_rest(carry: Carry, body: &mut [u8])
     requires { carry.at + (carry.bits + 7) / 8 ≤ length body.old }
     ensures { body.new ≡ take carry.at body.old ++ (bytes_of ((carry.bits + 7) / 8) carry.acc ++ drop (carry.at + (carry.bits + 7) / 8) body.old) }

@@ -39,7 +39,7 @@ pub(crate) fn assign_one(
     marks: &mut [u8],
 )
     requires marked { Marked modulus marks.old g.old }
-    requires le_m { (3 ≤ m) × (v < m) × (value < modulus) × (length g.old ≡ m) }
+    requires sizes { (3 ≤ m) × (v < m) × (value < modulus) × (length g.old ≡ m) }
     ensures { Word modulus value v (listed (verts_of kind key seed m)) marks.old g.old marks.new g.new }
 {
     let us = vertices_of(key, seed, m, kind);

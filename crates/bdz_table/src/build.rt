@@ -146,8 +146,8 @@ fn work_compact(
 // The values judged, with the seen values zero before and after.
 fn judge_part(values: &[u32], modulus: u32, seen: &mut [u8]) -> u32
     requires { length seen.old ≡ occupancy_bytes modulus }
-    ensures value { result ≡ values_no modulus [] values.now }
-    ensures seen_after { seen.new ≡ replicate (length seen.old) 0 }
+    ensures judged { result ≡ values_no modulus [] values.now }
+    ensures cleared { seen.new ≡ replicate (length seen.old) 0 }
 {
     zero8(seen);
     let verdict = judge_values(values, modulus, seen);
@@ -202,8 +202,8 @@ fn begin_assigned(
     marks: &mut [u8],
     seen: &mut [u8],
 ) -> Ready
-    requires in_bounds { 1 ≤ length keys.now }
-    requires seen_value { assigned_early (length keys.now) (length values.now) modulus (lengths_with table.old degrees.old xors.old queue.old order marks.old [] seen.old) ≡ 0 }
+    requires some { 1 ≤ length keys.now }
+    requires accepted { assigned_early (length keys.now) (length values.now) modulus (lengths_with table.old degrees.old xors.old queue.old order marks.old [] seen.old) ≡ 0 }
     ensures { ReadyAssigned keys.now values.now modulus order table.old degrees.old xors.old queue.old marks.old seen.old result table.new degrees.new xors.new queue.new marks.new seen.new }
 {
     let n = keys.len() as u32;
@@ -246,8 +246,8 @@ fn begin_compact(
     queue: &mut [u32],
     marks: &mut [u8],
 ) -> Ready
-    requires in_bounds { 1 ≤ length keys.now }
-    requires occupancy_value { compact_early (length keys.now) (lengths_with table.old degrees.old xors.old queue.old order marks.old occupancy.old []) ≡ 0 }
+    requires some { 1 ≤ length keys.now }
+    requires accepted { compact_early (length keys.now) (lengths_with table.old degrees.old xors.old queue.old order marks.old occupancy.old []) ≡ 0 }
     ensures { ReadyCompact keys.now order table.old occupancy.old degrees.old xors.old queue.old marks.old result table.new occupancy.new degrees.new xors.new queue.new marks.new }
 {
     let n = keys.len() as u32;

@@ -109,7 +109,7 @@ fn cut_key(
     qn: usize,
 ) -> usize
     requires sizes { Sizes (length keys.now) m }
-    requires e_in_bounds { e < length keys.now }
+    requires key_below { e < length keys.now }
     requires leaves { Leaves (graph_of kind keys.now seed m e) deg.old xor_e.old q.old qn }
     ensures { Left (graph_of kind keys.now seed m e) e deg.old xor_e.old q.old qn deg.new xor_e.new q.new result }
 {

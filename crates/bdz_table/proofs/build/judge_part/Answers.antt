@@ -8,4 +8,4 @@ judge_values-verdict-requires c = c.zero8.ensures ∙ ap (λ (k : ℕ). replicat
 pub returns : goal.returns
 returns c =
     let judged = c.judge_values-verdict in
-    record { value = judged.ensures; seen_after = c.zero8-2.ensures ∙ ap (λ (k : ℕ). replicate k 0) (judged.auto.seen ∙ c.zero8.auto.s) }
+    record { judged = judged.ensures; cleared = c.zero8-2.ensures ∙ ap (λ (k : ℕ). replicate k 0) (judged.auto.seen ∙ c.zero8.auto.s) }

@@ -32,7 +32,7 @@ begin_assigned-requires c =
     let early = assigned_early (length a.keys.now) (length a.values.now) a.modulus (lengths_with a.table.now a.degrees.now a.xors.now a.queue.now a.order a.marks.now [] a.seen.now) in
     let told : c.early_assigned-early.result ≡ early = c.early_assigned-early.ensures in
     let some : length a.keys.now ≡ 0 → ⊥ = c.if-keys-eq0.false in
-    record { in_bounds = omega arith; seen_value = sym told ∙ c.if-early-ne-ACCEPTED.false }
+    record { some = omega arith; accepted = sym told ∙ c.if-early-ne-ACCEPTED.false }
 
 pub returns : goal.returns
 returns c = c.begin_assigned.ensures

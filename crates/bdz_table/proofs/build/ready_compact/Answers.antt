@@ -31,7 +31,7 @@ begin_compact-requires c =
     let early = compact_early (length a.keys.now) (lengths_with a.table.now a.degrees.now a.xors.now a.queue.now a.order a.marks.now a.occupancy.now []) in
     let told : c.early_compact-early.result ≡ early = c.early_compact-early.ensures in
     let some : length a.keys.now ≡ 0 → ⊥ = c.if-keys-eq0.false in
-    record { in_bounds = omega arith; occupancy_value = sym told ∙ c.if-early-ne-ACCEPTED.false }
+    record { some = omega arith; accepted = sym told ∙ c.if-early-ne-ACCEPTED.false }
 
 pub returns : goal.returns
 returns c = c.begin_compact.ensures

@@ -15,7 +15,7 @@ slice_bounds-assign_one-end-4 c =
 pub assign_one-requires : goal.assign_one-requires
 assign_one-requires c =
     let r = c.requires.0 in
-    record { marked = r.marked; le_m = (r.big, r.vertex, c.part_of.ensures.1, length-take-le c.args.m c.args.g.now r.longg) }
+    record { marked = r.marked; sizes = (r.big, r.vertex, c.part_of.ensures.1, length-take-le c.args.m c.args.g.now r.longg) }
 
 pub slice_bounds-occ_set-end-2 : goal.slice_bounds-occ_set-end-2
 slice_bounds-occ_set-end-2 c =

@@ -44,7 +44,7 @@ cut_key-qn-requires c =
     let l = c.loop-qi in
     let test = c.loop-qi-test.true in
     let one = c.if-deg-v-eq1.true in
-    record { sizes = c.requires.sizes; e_in_bounds = key_below _ _ _ G _ _ _ _ _ _ l.invariant test one; leaves = leaves _ _ _ G _ _ _ _ _ _ l.invariant test one }
+    record { sizes = c.requires.sizes; key_below = key_below _ _ _ G _ _ _ _ _ _ l.invariant test one; leaves = leaves _ _ _ G _ _ _ _ _ _ l.invariant test one }
 
 pub offset_bounds-q-c : goal.offset_bounds-q-c
 offset_bounds-q-c c =
