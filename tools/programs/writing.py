@@ -166,7 +166,7 @@ def stopped_anywhere():
 
 
 def failing_calls():
-    """Each call on files fails once: only what is built whole has status 0, a failure is told, and nothing is left."""
+    """Each call on files fails once: only what is built whole has status 0, any other end is told, and nothing is left."""
     for at, (name, number) in enumerate(call for call in calls_of_a_run() if call[0] in ON_FILES):
         error = ("EIO", "ENOSPC", "EINTR")[at % 3]
         what = f"{name} {number} fails with {error}"
