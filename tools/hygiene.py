@@ -40,6 +40,8 @@ class File:
         mark = "--" if path.suffix == ".antt" else "//"
         lines = [line for line in path.read_text().split("\n") if not line.lstrip().startswith(mark)]
         self.taken = [found for found in map(TAKEN.match, lines) if found]
+        # an attribute names lemmas by their paths
+        lines = [line.replace("::", " ") if line.lstrip().startswith("#") else line for line in lines]
         self.lines = [line for line in lines if not TAKEN.match(line)]
         self.words = set(WORD.findall("\n".join(self.lines)))
         # what the check asks for stands at a type of the function's goals
