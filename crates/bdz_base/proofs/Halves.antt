@@ -20,14 +20,7 @@ by_halves a b = (λ i. sym (split a 32) i * sym (split b 32) i) ∙ expand (2 ^ 
 pub low_half : (a b : ℕ) → ((a / 2 ^ 32 * bit_and b 0xffff_ffff + bit_and a 0xffff_ffff * (b / 2 ^ 32)) % 2 ^ 64 * 2 ^ 32 % 2 ^ 64 + bit_and a 0xffff_ffff * bit_and b 0xffff_ffff) % 2 ^ 64 ≡ a * b % 2 ^ 64
 low_half a b = rw (and_mask a 32, and_mask b 32) (omega (arith, by_halves a b))
 
-by_half : (h p : ℕ) → h * p ≡ h / 2 ^ 32 * p * 2 ^ 32 + h % 2 ^ 32 * p
-by_half h p = (λ i. sym (split h 32) i * p) ∙ simp (add-mul, mul_assoc, mul_comm, mul_left_comm) refl
-
--- the bits above 64 of a product by a number of 32 bits, as the program computes them
-pub high_half : (h p : ℕ) → (h / 2 ^ 32 * p + bit_and h 0xffff_ffff * p / 2 ^ 32) / 2 ^ 32 ≡ h * p / 2 ^ 64
-high_half h p = rw (and_mask h 32) (omega (arith, by_half h p))
-
--- which is below a p that is not 0
+-- the bits above 64 of a product, which are below a factor that is not 0
 pub high_le : (h p : ℕ) → h < 2 ^ 64 → h * p / 2 ^ 64 ≤ p - 1
 high_le h zero l = rw mul-zero (omega arith)
 high_le h (suc p) l =

@@ -1,11 +1,14 @@
 -- A promise leaves one answer: any two outcomes that it allows coincide. Each theorem is stated of `Post`, which is the promise that
 -- the source makes, as the check reads it, at any arguments. Assumes nothing.
 use Rattle.std.proofs.Common.{◌≡◌, sym, ◌∙◌}
+use Rattle.bdz_base.proofs.Refusals.{one_answer}
+use Rattle.bdz_base.proofs.Widths.{one_told_width}
 use Rattle.bdz_base.proofs.mix.mix64.Reads as mix64
 use Rattle.bdz_base.proofs.mix.splitmix64.Reads as splitmix64
 use Rattle.bdz_base.proofs.pack.extract_g_window.Reads as extract-g-window
 use Rattle.bdz_base.proofs.pack.pack_g.Reads as pack-g
 use Rattle.bdz_base.proofs.pack.unpack_g_at.Reads as unpack-g-at
+use Rattle.bdz_base.proofs.refusal.refusal_text.Reads as refusal-text
 use Rattle.bdz_base.proofs.size.compact_vertex_count.Reads as compact-vertex-count
 use Rattle.bdz_base.proofs.size.g_bits_for_modulus.Reads as g-bits-for-modulus
 use Rattle.bdz_base.proofs.size.occ_packed_bytes.Reads as occ-packed-bytes
@@ -15,6 +18,8 @@ use Rattle.bdz_base.proofs.size.vertex_count.Reads as vertex-count
 use Rattle.bdz_base.proofs.verts.hash3.Reads as hash3
 use Rattle.bdz_base.proofs.verts.hash3_partite.Reads as hash3-partite
 use Rattle.bdz_base.proofs.verts.hash_verts.Reads as hash-verts
+use Rattle.bdz_base.proofs.width.Width.bits.Reads as width-bits
+use Rattle.bdz_base.proofs.width.Width.new.Reads as width-new
 use Rattle.bdz_base.proofs.words.high_product.Reads as high_product
 use Rattle.bdz_base.proofs.words.le64.Reads as le64
 use Rattle.bdz_base.proofs.words.mul_high.Reads as mul-high
@@ -80,4 +85,14 @@ pub one_unpack_g_at : (κs : _) (a : _) → OneResult (unpack-g-at.Post κs a)
 one_unpack_g_at κs a x y s t p q = p ∙ sym q
 
 pub one_pack_g : (κs : _) (a : _) → OneOutcome (λ s. s.1.1.0.now) (pack-g.Post κs a)
-one_pack_g κs a x y s t p q = (p.number_is ∙ sym q.number_is, p.after_is ∙ sym q.after_is)
+one_pack_g κs a x y s t p q = (one_answer x y (p.number_is ∙ sym q.number_is), p.after_is ∙ sym q.after_is)
+
+pub one_refusal_text : (κs : _) (a : _) (x y : _) (s t : _) → refusal-text.Post κs a x s → refusal-text.Post κs a y t
+    → x.now ≡ y.now
+one_refusal_text κs a x y s t p q = p ∙ sym q
+
+pub one_width_new : (κs : _) (a : _) → OneResult (width-new.Post κs a)
+one_width_new κs a x y s t p q = one_told_width x y a.0 (p.0 ∙ sym q.0) p.1 q.1
+
+pub one_width_bits : (κs : _) (a : _) → OneResult (width-bits.Post κs a)
+one_width_bits κs a x y s t p q = p.0 ∙ sym q.0

@@ -5,5 +5,6 @@ pub mod Pack
 pub mod Pages
 pub mod Refusal
 pub mod Sizes
+pub mod Text
 pub mod Verts
 pub mod Width

@@ -6,4 +6,5 @@ pub mod pack;
 pub mod refusal;
 pub mod size;
 pub mod verts;
+pub mod width;
 pub mod words;

@@ -4,8 +4,10 @@ ghost use Rattle.bdz_base.specs.Buffer.{over};
 ghost use Rattle.bdz_base.specs.Sizes.{table_bytes};
 ghost use Rattle.bdz_base.specs.Pack.{bytes_of, pack_of, bits_at, word_at, Packed};
 ghost use Rattle.bdz_base.specs.Carry.{Gave};
+ghost use Rattle.bdz_base.specs.Refusal.{number_of};
 
-use super::refusal::{ACCEPTED, G_BITS, NO_ROOM};
+use super::refusal::Refusal;
+use super::width::Width;
 use super::words::{join, le64, low_bits};
 
 // What has come in and not gone out: the lowest `bits` bits of acc, which belong at the byte `at`.
@@ -23,14 +25,15 @@ fn low_byte(x: u64) -> u8
 }
 
 // A word comes in above, cut to the width.
-fn take_word(carry: Carry, word: u32, width: u32) -> Carry
-    requires { (carry.acc < 2 ^ carry.bits) × (carry.bits < 32) × (width ≤ 32) }
-    ensures { (result.acc ≡ word % 2 ^ width * 2 ^ carry.bits + carry.acc) × (result.bits ≡ carry.bits + width) × (result.at ≡ carry.at) }
+fn take_word(carry: Carry, word: u32, width: Width) -> Carry
+    requires { (carry.acc < 2 ^ carry.bits) × (carry.bits < 32) }
+    ensures { (result.acc ≡ word % 2 ^ width.bits * 2 ^ carry.bits + carry.acc)
+        × (result.bits ≡ carry.bits + width.bits) × (result.at ≡ carry.at) }
 {
     let bits = carry.bits;
     Carry {
-        acc: join(carry.acc, low_bits(word as u64, width), bits),
-        bits: bits + width,
+        acc: join(carry.acc, low_bits(word as u64, width.bits()), bits),
+        bits: bits + width.bits(),
         at: carry.at,
     }
 }
@@ -69,16 +72,17 @@ fn give_bytes(carry: Carry, body: &mut [u8]) -> Carry
     requires { carry.at + carry.bits / 8 ≤ length body.old }
     ensures { Gave (carry.bits / 8) carry body.old result body.new }
 {
+    let end = carry.at + (carry.bits / 8) as usize;
     let mut acc = carry.acc;
-    let mut bits = carry.bits;
-    let mut at = carry.at;
-    while bits >= 8 {
+    for at in carry.at..end {
         body[at] = low_byte(acc);
         acc >>= 8;
-        bits -= 8;
-        at += 1;
     }
-    Carry { acc, bits, at }
+    Carry {
+        acc,
+        bits: carry.bits % 8,
+        at: end,
+    }
 }
 
 // What is left of the carry: whole bytes, and one that is padded with zeros.
@@ -97,29 +101,26 @@ fn give_rest(carry: Carry, body: &mut [u8])
 }
 
 // The words into the first bytes of the body.
-fn pack_words(g: &[u32], width: u32, body: &mut [u8])
-    requires { (width ≤ 32) × (table_bytes width (length g.now) ≤ length body.old) }
-    ensures { body.new ≡ over (pack_of width g.now) body.old }
+fn pack_words(g: &[u32], width: Width, body: &mut [u8])
+    requires { table_bytes width.bits (length g.now) ≤ length body.old }
+    ensures { body.new ≡ over (pack_of width.bits g.now) body.old }
 {
     let mut carry = Carry {
         acc: 0,
         bits: 0,
         at: 0,
     };
-    let mut i: usize = 0;
-    while i < g.len() {
-        carry = give_fours(take_word(carry, g[i], width), body);
-        i += 1;
+    for &word in g {
+        carry = give_fours(take_word(carry, word, width), body);
     }
     give_rest(carry, body);
 }
 
 // Whether so many words take more than so many bytes. It never multiplies what it has not bounded.
-fn lacks_room(words: usize, width: u32, bytes: usize) -> bool
-    requires { (0 < width) × (width ≤ 32) }
-    ensures { result ≡ nat_lt bytes (table_bytes width words) }
+fn lacks_room(words: usize, width: Width, bytes: usize) -> bool
+    ensures { result ≡ nat_lt bytes (table_bytes width.bits words) }
 {
-    let w = width as usize;
+    let w = width.bits() as usize;
     let eights = words / 8;
     if eights > bytes / w {
         return true;
@@ -129,27 +130,15 @@ fn lacks_room(words: usize, width: u32, bytes: usize) -> bool
 }
 
 // Packs the words into the first bytes of the body. 10 for a width of 0 or over 32, 14 where the body is too short; then it stays as it is.
-pub fn pack_g(g: &[u32], width: u32, body: &mut [u8]) -> u32
-    ensures { Packed width g.now body.old result body.new }
+pub fn pack_g(g: &[u32], width: u32, body: &mut [u8]) -> Result<(), Refusal>
+    ensures { Packed width g.now body.old (number_of result) body.new }
 {
-    if width == 0 {
-        return G_BITS;
-    }
-    if 32 < width {
-        return G_BITS;
-    }
+    let width = Width::new(width)?;
     if lacks_room(g.len(), width, body.len()) {
-        return NO_ROOM;
+        return Err(Refusal::NoRoom);
     }
     pack_words(g, width, body);
-    ACCEPTED
-}
-
-// The width of what is read: no word has over 32 bits.
-fn word_bits(width: u32) -> u32
-    ensures { result ≡ min width 32 }
-{
-    if width < 32 { width } else { 32 }
+    Ok(())
 }
 
 // As many bits of a part of the table as the width says, 32 at most, from the bit `start` on. A byte that is not there counts as 0.
@@ -158,7 +147,7 @@ pub fn extract_g_window(part: &[u8], start: u64, width: u32) -> u32
 {
     low_bits(
         le64(part, (start / 8) as usize) >> (start % 8),
-        word_bits(width),
+        width.min(32),
     ) as u32
 }
 

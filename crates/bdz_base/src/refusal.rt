@@ -1,42 +1,81 @@
-// The refusal numbers, each under the name of its text in document 01.
-pub const ACCEPTED: u32 = 0;
+// Why a call refuses: document 01's refusals, each under the name of its text there.
+ghost use Rattle.std.specs.Prelude.{◌≡◌};
+ghost use Rattle.bdz_base.specs.Refusal.{number};
+ghost use Rattle.bdz_base.specs.Text.{text_of};
 
-pub const ASSIGNED_LEN: u32 = 1;
+use std::error::Error;
+use std::fmt;
 
-pub const ASSIGNED_MODULUS: u32 = 2;
+// In the order of their numbers, from 1 on.
+#[derive(Clone, Copy, Debug, PartialEq, Eq)]
+pub enum Refusal {
+    AssignedLen = 1,
+    AssignedModulus,
+    AssignedValue,
+    AssignedDuplicate,
+    GraphDidNotPeel,
+    ShortPread,
+    GLength,
+    BadMagic,
+    BadVersion,
+    GBits,
+    ZeroModulus,
+    OccTruncated,
+    TooLarge,
+    NoRoom,
+    PageNotListed,
+    PageGiven,
+    PageLength,
+    Waiting,
+    BadList,
+    NoSuchKey,
+}
 
-pub const ASSIGNED_VALUE: u32 = 3;
+// The number of a refusal.
+impl From<Refusal> for u32 {
+    ghost from_gives = { λ refusal no. no ≡ number refusal };
 
-pub const ASSIGNED_DUPLICATE: u32 = 4;
+    fn from(refusal: Refusal) -> u32 {
+        refusal as u32
+    }
+}
 
-pub const GRAPH_DID_NOT_PEEL: u32 = 5;
+// The text of a refusal number; none for 0 and for what is no refusal.
+pub fn refusal_text(no: u32) -> &'static str
+    ensures { result.now ≡ text_of «no» }
+{
+    match no {
+        1 => "assigned len",
+        2 => "assigned modulus",
+        3 => "assigned value",
+        4 => "assigned duplicate",
+        5 => "graph did not peel",
+        6 => "short pread",
+        7 => "g length",
+        8 => "bad magic",
+        9 => "bad version",
+        10 => "g_bits",
+        11 => "zero modulus",
+        12 => "occ truncated",
+        13 => "too large",
+        14 => "no room",
+        15 => "page not listed",
+        16 => "page given",
+        17 => "page length",
+        18 => "waiting",
+        19 => "bad list",
+        20 => "no such key",
+        _ => "",
+    }
+}
 
-pub const SHORT_PREAD: u32 = 6;
+// As "8 bad magic".
+impl fmt::Display for Refusal {
+    fn fmt<W: fmt::Write>(&self, f: &mut fmt::Formatter<W>) -> fmt::Result {
+        let no = u32::from(*self);
+        let text = refusal_text(no);
+        write!(f, "{no} {text}")
+    }
+}
 
-pub const G_LENGTH: u32 = 7;
-
-pub const BAD_MAGIC: u32 = 8;
-
-pub const BAD_VERSION: u32 = 9;
-
-pub const G_BITS: u32 = 10;
-
-pub const ZERO_MODULUS: u32 = 11;
-
-pub const OCC_TRUNCATED: u32 = 12;
-
-pub const TOO_LARGE: u32 = 13;
-
-pub const NO_ROOM: u32 = 14;
-
-pub const PAGE_NOT_LISTED: u32 = 15;
-
-pub const PAGE_GIVEN: u32 = 16;
-
-pub const PAGE_LENGTH: u32 = 17;
-
-pub const WAITING: u32 = 18;
-
-pub const BAD_LIST: u32 = 19;
-
-pub const NO_SUCH_KEY: u32 = 20;
+impl Error for Refusal {}

@@ -8,11 +8,7 @@ pub fn vertex_count(n: u32) -> u64
     ensures { result ≡ assigned_size n }
 {
     let wide = n as u64;
-    let spread = (123 * wide + 99) / 100;
-    if spread < wide + 3 {
-        return wide + 3;
-    }
-    spread
+    ((123 * wide + 99) / 100).max(wide + 3)
 }
 
 // The same of a compact index: a multiple of 3.

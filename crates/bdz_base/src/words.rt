@@ -60,20 +60,11 @@ pub(crate) fn join(acc: u64, x: u64, bits: u32) -> u64
     acc | (x << bits)
 }
 
-fn wide(x: u8) -> u64
-    ensures { (result ≡ x) × (result < 2 ^ 8) }
-{
-    x as u64
-}
-
 // The byte at i, or 0 where there is none.
 fn byte_at(bytes: &[u8], i: usize) -> u64
     ensures { (result ≡ slice_index bytes.now i) × (result < 2 ^ 8) }
 {
-    if i < bytes.len() {
-        return wide(bytes[i]);
-    }
-    0
+    bytes.get(i).map_or(0, |&byte| u64::from(byte))
 }
 
 // The first eight bytes, all there: the compiler reads them at once.
@@ -83,7 +74,7 @@ fn le64_inside(part: &[u8]) -> u64
 {
     let mut acc: u64 = 0;
     for i in 0usize..8 {
-        acc = join(acc, wide(part[i]), (i * 8) as u32);
+        acc = join(acc, u64::from(part[i]), (i * 8) as u32);
     }
     acc
 }

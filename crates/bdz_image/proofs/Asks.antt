@@ -10,8 +10,7 @@ use lib.Pow.{pow_mono}
 use lib.ListN.{length, get_or}
 use borrow.Author.Tests.{eqb-true, eq-eqb}
 use Rattle.bdz_image.specs.Feed.{word_in, among, slot}
-use Rattle.bdz_image.specs.declared.ask.Words.{Words}
-use Rattle.bdz_image.specs.Ask.{missing_at, ask_no, ask_value, words_of, Came}
+use Rattle.bdz_image.specs.Ask.{Words, missing_at, ask_no, ask_value, words_of, Came}
 use Rattle.bdz_image.proofs.Any.{at_start, complete, waits, word_lt}
 use Rattle.bdz_image.proofs.Sweeps.{Fed}
 

@@ -16,14 +16,14 @@ use Rattle.bdz_base.specs.Sizes.{table_bytes, occupancy_bytes}
 use Rattle.bdz_base.specs.declared.verts.Kind.{Kind}
 use Rattle.bdz_base.specs.declared.verts.Kind.TheVariants.{Assigned, Compact}
 use Rattle.bdz_base.proofs.Digits.{length_packed, read_back}
-use Rattle.bdz_table.specs.Build.{vertices_for, width_for, index_for, refused_build, built_for, compact_occupancy, BuiltAssigned, BuiltCompact}
+use Rattle.bdz_table.specs.Build.{vertices_for, width_for, index_for, built_for, compact_occupancy, BuiltAssigned, BuiltCompact}
 use Rattle.bdz_table.specs.Rank.{ones_below, super_counts}
-use Rattle.bdz_table.specs.declared.index.Built.{Built}
 use Rattle.bdz_table.specs.declared.index.Index.{Index}
 use Rattle.bdz_table.specs.declared.pairs.Pair.{Pair}
 use Rattle.bdz_table.proofs.Answered.{occupancy_long}
 use Rattle.bdz_table.proofs.Has.{lt_or_ge}
 use Rattle.bdz_table.proofs.Ranks.{below_front, supers_front}
+use Rattle.bdz_table.specs.Told.{Built, refused_build}
 use Rattle.bdz_image.specs.Header.{header_bytes}
 use Rattle.bdz_image.specs.Image.{occ_in, header_of, body_of, image_of, image_len}
 use Rattle.bdz_image.specs.Open.{packed_no, compact_no, open_packed, open_compact, open_file}

@@ -27,16 +27,15 @@ use Rattle.bdz_table.specs.Build.{vertices_for, width_for, index_for, compact_oc
 use Rattle.bdz_table.specs.Graph.{has}
 use Rattle.bdz_table.specs.Lookup.{few_answer, answer_of}
 use Rattle.bdz_table.specs.Rank.{super_at, super_counts, supers_no, SuperCounted}
-use Rattle.bdz_table.specs.declared.index.Built.{Built}
 use Rattle.bdz_table.specs.declared.index.Index.{Index}
 use Rattle.bdz_table.specs.declared.pairs.Pair.{Pair}
 use Rattle.bdz_table.proofs.Answered.{OnceEach, assigned_slots, compact_slot, compact_slots, occupancy_long}
 use Rattle.bdz_table.proofs.Fold.{clash}
 use Rattle.bdz_table.proofs.Has.{lt_or_ge}
 use Rattle.bdz_table.proofs.Passed.{supers_accepted, few_answer_lem, finish_few, finish_many}
-use Rattle.bdz_image.specs.declared.feed.Feed.{Feed}
+use Rattle.bdz_table.specs.Told.{Built}
 use Rattle.bdz_image.specs.Feed.{page_of, word_in}
-use Rattle.bdz_image.specs.Feeding.{feed_m, lists_none, lists_pages, occupancy_no, feed_no, start_room, start_no, feed_of, Opened, PageFed, ask_room, asked_no, asked_of}
+use Rattle.bdz_image.specs.Feeding.{Feed, feed_m, lists_none, lists_pages, occupancy_no, feed_no, start_room, start_no, feed_of, Opened, PageFed, ask_room, asked_no, asked_of}
 use Rattle.bdz_image.specs.Image.{image_of, image_len}
 use Rattle.bdz_image.specs.Open.{open_file}
 use Rattle.bdz_image.specs.Write.{Wrote}

@@ -22,12 +22,10 @@ use Rattle.bdz_table.specs.Keys.{listed, graph_of}
 use Rattle.bdz_table.specs.Lookup.{finished_of}
 use Rattle.bdz_table.specs.Rank.{answered}
 use Rattle.bdz_table.specs.declared.index.Index.{Index}
-use Rattle.bdz_image.specs.declared.ask.Words.{Words}
-use Rattle.bdz_image.specs.declared.feed.Feed.{Feed}
-use Rattle.bdz_image.specs.Ask.{missing_at, ask_no, words_of, Came}
+use Rattle.bdz_image.specs.Ask.{Words, missing_at, ask_no, words_of, Came}
 use Rattle.bdz_image.specs.Entry.{vertex_at, entry_at}
 use Rattle.bdz_image.specs.Feed.{slot, among, page_of, word_in}
-use Rattle.bdz_image.specs.Feeding.{feed_m, lists_pages, feed_no, start_room, start_no, order_of, pages_of, fresh_slots, begun, feed_of, Opened, page_early, feed_page_no, PageFed, super_no, ask_room, ask_early, asked_no, asked_of}
+use Rattle.bdz_image.specs.Feeding.{Feed, feed_m, lists_pages, feed_no, start_room, start_no, order_of, pages_of, fresh_slots, begun, feed_of, Opened, page_early, feed_page_no, PageFed, super_no, ask_room, ask_early, asked_no, asked_of}
 use Rattle.bdz_image.specs.Page.{page_no, page_slots}
 use Rattle.bdz_image.specs.Pages.{padded}
 use Rattle.bdz_image.specs.Start.{Started}

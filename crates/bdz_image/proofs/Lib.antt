@@ -19,6 +19,7 @@ pub mod Numbers
 pub mod Once
 pub mod OneAnswer
 pub mod OpenedParts
+pub mod Openings
 pub mod Orders
 pub mod PageNos
 pub mod Passes
@@ -26,4 +27,5 @@ pub mod Place
 pub mod Small
 pub mod Starting
 pub mod Sweeps
+pub mod ToldLaws
 pub mod Writing

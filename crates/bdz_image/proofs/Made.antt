@@ -18,7 +18,6 @@ use Rattle.bdz_base.proofs.WidthLaws.{width_holds}
 use Rattle.bdz_table.specs.Build.{vertices_for, assigned_early, compact_early, build_no, seed_for, width_for, index_for, assigned_table, compact_table, compact_occupancy, lengths_of, BuiltAssigned, BuiltCompact}
 use Rattle.bdz_table.specs.Seeds.{first_seed}
 use Rattle.bdz_table.specs.Values.{values_no}
-use Rattle.bdz_table.specs.declared.index.Built.{Built}
 use Rattle.bdz_table.specs.declared.index.Index.{Index}
 use Rattle.bdz_table.specs.declared.pairs.Pair.{Pair}
 use Rattle.bdz_table.proofs.Answered.{built, occupancy_long}
@@ -27,6 +26,7 @@ use Rattle.bdz_table.proofs.Found.{none_refused, assigned_found, compact_found}
 use Rattle.bdz_table.proofs.Has.{lt_or_ge}
 use Rattle.bdz_table.proofs.NeedLaws.{vertices_fit, vertices_more, vertices_none, vertices_one}
 use Rattle.bdz_table.proofs.Runs.{one_assigned, one_compact}
+use Rattle.bdz_table.specs.Told.{Built}
 use Rattle.bdz_image.specs.Image.{occ_in}
 
 pub record Made (index : Index) (table occ : List ℕ) : Type 0 where

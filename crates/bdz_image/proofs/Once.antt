@@ -5,21 +5,10 @@ use Prim.Native.Nat.{ℕ, zero, suc, ◌+◌, ◌-◌, ◌*◌, ◌≤◌, ◌<�
 use native.Mathlib.Numerals.{add-one, unary_clauses}
 use native.Mathlib.Nat.{sub-zero}
 use native.Mathlib.Omega.{arith}
-use lib.ListN.{length, set, take, drop, replicate, length-replicate, replicate-append-replicate, length-set, take-append-drop}
+use lib.ListN.{length, set, take, drop, replicate, length-set, take-append-drop}
 use lib.Seq.{drop-drop, append_snoc, take-suc-set, drop-set-lt, length-take-le}
 use borrow.Author.Tests.{le-ltb, lt-ltb}
-use Rattle.bdz_base.specs.Buffer.{tab}
 use Rattle.bdz_image.specs.Pages.{once_of, Listing, padded}
-
-pub tab_zeros : (n : ℕ) → tab (λ _. 0) n ≡ replicate {A = ℕ} n 0
-unfolding tab
-tab_zeros zero = refl
-tab_zeros (suc n) = rw (tab_zeros n, replicate-append-replicate {A = ℕ} n 1 0, add-one)
-
-pub tab_same : (x n : ℕ) → tab (λ _. x) n ≡ replicate {A = ℕ} n x
-unfolding tab
-tab_same x zero = refl
-tab_same x (suc n) = rw (tab_same x n, replicate-append-replicate {A = ℕ} n 1 x, add-one)
 
 pub drop_zeros : (k n : ℕ) → drop {A = ℕ} k (replicate n 0) ≡ replicate (n - k) 0
 drop_zeros zero n = rw sub-zero
@@ -38,10 +27,6 @@ module _ (f : ℕ → ℕ) where
   once_end : (i next : ℕ) → once_of f 0 i next ≡ []
   unfolding once_of
   once_end i next = refl
-
-  pub listing_start : (n : ℕ) → Listing f n 0 0 0 (replicate n 0)
-  listing_start n =
-      record { few = omega arith; within = omega arith; long = length-replicate n 0; listed = rw sub-zero; clear = rw sub-zero }
 
   -- two places of the row on
   pub listing_twice : (i : ℕ) {n count next : ℕ} {pages : List ℕ} → Listing f n count next (2 * i + 1 + 1) pages → Listing f n count next (2 * (i + 1)) pages

@@ -1,16 +1,16 @@
--- What the writer's steps come to: bytes copied, words packed into a part of their own, and three parts of one buffer lent one after the
--- other. Assumes nothing.
-use mathlib.Core.Path.{◌≡◌, refl, sym, ap, ap₂, ◌∙◌}
-use mathlib.Core.List.{List, [], ◌∷◌, ◌++◌, append_assoc, append-nil}
-use Prim.Native.Nat.{ℕ, zero, suc, ◌+◌, ◌-◌, ◌*◌, ◌^◌, ◌<◌, ◌≤◌}
+-- What the writer's steps come to: words packed into a part of their own, and three parts of one buffer lent one after
+-- the other. Assumes nothing.
+use mathlib.Core.Path.{◌≡◌, sym, ap, ap₂, ◌∙◌}
+use mathlib.Core.List.{List, [], ◌++◌, append_assoc, append-nil}
+use Prim.Native.Nat.{ℕ, ◌+◌, ◌-◌, ◌*◌, ◌^◌, ◌<◌, ◌≤◌}
 use native.Mathlib.Nat.{le_trans, mul-le-mul_left, mul-le-mul_right, le-pred_of_lt, sub-zero}
 use native.Mathlib.Omega.{arith}
 use borrow.Author.Tests.{ne_eqb, le-ltb, ltb-false}
 use borrow.Rule.Slice.PartMut.{put_mid, post_of}
 use lib.Dec.{ltb}
-use lib.ListN.{length, get_or, take, drop, length-append, drop_of_length-le}
-use lib.Seq.{take-suc, take-length, take_at, drop_at, drop-length, drop-drop, length-take-le}
-use Rattle.bdz_base.specs.Buffer.{tab, over}
+use lib.ListN.{length, take, drop, length-append, drop_of_length-le}
+use lib.Seq.{take_at, drop_at, drop-drop, length-take-le}
+use Rattle.bdz_base.specs.Buffer.{over}
 use Rattle.bdz_base.specs.Pack.{pack_of, pack_no, after_pack, Packed}
 use Rattle.bdz_base.specs.Sizes.{table_bytes}
 use Rattle.bdz_base.specs.declared.verts.Kind.{Kind}
@@ -25,17 +25,6 @@ use Rattle.bdz_image.specs.Header.{header_bytes}
 use Rattle.bdz_image.specs.Image.{words_in, occ_in, header_of, body_of, image_of, image_len}
 use Rattle.bdz_image.specs.Write.{write_no}
 use Rattle.bdz_image.proofs.Fields.{length_header}
-
--- ---- a list by its elements
-
-tab_take : (xs : List ℕ) (n : ℕ) → n ≤ length xs → tab (λ i. get_or xs i 0) n ≡ take n xs
-unfolding tab
-tab_take xs zero h = refl
-tab_take xs (suc n) h =
-    ap (λ (l : List ℕ). l ++ (get_or xs n 0 ∷ [])) (tab_take xs n (omega arith)) ∙ sym (take-suc xs n 0 (omega arith))
-
-pub tab_self : (xs : List ℕ) → tab (λ i. get_or xs i 0) (length xs) ≡ xs
-tab_self xs = tab_take xs (length xs) (omega arith) ∙ take-length xs
 
 -- ---- sizes
 
@@ -58,6 +47,12 @@ packed_whole w words body p h k l =
     let rest : drop (length (pack_of w words)) body ≡ [] = drop_of_length-le body short in
     p.after_is ∙ rw (ne_eqb w 0 (omega arith), le-ltb 32 w k, le-ltb (length body) (table_bytes w (length words)) (omega arith), rest) (append-nil (pack_of w words))
 
+-- and they are not refused
+pub packed_accepted : (w : ℕ) (words body : List ℕ) {number : ℕ} {after : List ℕ} → Packed w words body number after → 1 ≤ w → w ≤ 32 → length body ≡ table_bytes w (length words) → number ≡ 0
+unfolding pack_no
+packed_accepted w words body p h k l =
+    p.number_is ∙ rw (ne_eqb w 0 (omega arith), le-ltb 32 w k, le-ltb (length body) (table_bytes w (length words)) (omega arith))
+
 -- ---- parts
 
 -- a part that starts at the start
@@ -78,15 +73,13 @@ abbrev pub after₂ : List ℕ → List ℕ → List ℕ → ℕ → List ℕ
 after₂ xs h p n = put_mid 32 (32 + n - 32) (h ++ post_of 0 32 xs) p
 
 -- the header, the packed table and the occupancy, lent one after the other
-pub three_parts : (xs h p c occ : List ℕ) (n : ℕ) → length h ≡ 32 → length p ≡ n
-    → c ≡ over occ (take (length (after₂ xs h p n) - (32 + n)) (drop (32 + n) (after₂ xs h p n)))
-    → put_mid (32 + n) (length (after₂ xs h p n) - (32 + n)) (after₂ xs h p n) c ≡ h ++ (p ++ (occ ++ drop (32 + n + length occ) xs))
+pub three_parts : (xs h p c occ : List ℕ) (n : ℕ) → length h ≡ 32 → length p ≡ n → c ≡ occ
+    → put_mid (32 + n) (32 + n + length occ - (32 + n)) (after₂ xs h p n) c
+    ≡ h ++ (p ++ (occ ++ drop (32 + n + length occ) xs))
 three_parts xs h p c occ n lh lp e =
-    ap₂ (λ (k : ℕ) (l : List ℕ). put_mid (32 + n) k l c) (ap (λ (l : List ℕ). length l - (32 + n)) two ∙ len) two
-    ∙ mid (32 + n) (length rest) (h ++ p) rest c front ∙ append_assoc h p (c ++ drop (length rest) rest)
-    ∙ ap (λ (l : List ℕ). h ++ (p ++ l))
-    (ap (λ (l : List ℕ). c ++ l) (drop-length rest) ∙ append-nil c ∙ e ∙ ap (λ (l : List ℕ). occ ++ drop (length occ) l) tail
-    ∙ ap (λ (l : List ℕ). occ ++ l) (drop-drop (length occ) (32 + n) xs))
+    ap₂ (λ (k : ℕ) (l : List ℕ). put_mid (32 + n) k l c) (less (32 + n) (length occ)) two
+    ∙ mid (32 + n) (length occ) (h ++ p) rest c front ∙ append_assoc h p (c ++ drop (length occ) rest)
+    ∙ ap₂ (λ (l m : List ℕ). h ++ (p ++ (l ++ m))) e (drop-drop (length occ) (32 + n) xs)
   where
     back : (k : ℕ) → 32 + (32 + k - 32) ≡ 32 + k
     back k = omega arith
@@ -105,15 +98,6 @@ three_parts xs h p c occ n lh lp e =
         mid 32 (32 + n - 32) h (drop 32 xs) p lh
         ∙ ap (λ (l : List ℕ). h ++ (p ++ l)) (drop-drop (32 + n - 32) 32 xs ∙ ap (λ (k : ℕ). drop k xs) (back n))
         ∙ sym (append_assoc h p rest)
-
-    len : length ((h ++ p) ++ rest) - (32 + n) ≡ length rest
-    len =
-        ap (λ (k : ℕ). k - (32 + n)) (length-append (h ++ p) rest ∙ ap (λ (k : ℕ). k + length rest) front) ∙ less (32 + n) (length rest)
-
-    tail : take (length (after₂ xs h p n) - (32 + n)) (drop (32 + n) (after₂ xs h p n)) ≡ rest
-    tail =
-        ap₂ (λ (k : ℕ) (l : List ℕ). take k (drop (32 + n) l)) (ap (λ (l : List ℕ). length l - (32 + n)) two ∙ len) two
-        ∙ ap (take (length rest)) (drop_at (h ++ p) rest (32 + n) front) ∙ take-length rest
 
 -- ---- the whole writer
 

@@ -1,17 +1,17 @@
 -- A feed's start, a page that is fed and a key that is asked for: every refusal in document 01's order, and what the lent buffers then hold. Assumes nothing.
-use Rattle.std.specs.Prelude.{◌≡◌, Bool, true, false, cond, List, ℕ, ◌-◌, ◌*◌, ◌^◌, eqb, ltb, length, get_or, take, replicate}
+use Rattle.std.specs.Prelude.{◌≡◌, Bool, true, false, cond, List, ℕ, ◌-◌, ◌*◌, ◌^◌, eqb, ltb, length, get_or, take, replicate, Result, Ok, Err}
 use Rattle.bdz_base.specs.Buffer.{tab, over, written}
-use Rattle.bdz_base.specs.Refusal.{refuse, accept}
+use Rattle.bdz_base.specs.Refusal.{number, refuse, accept}
 use Rattle.bdz_base.specs.Sizes.{occupancy_bytes, super_count}
+use Rattle.bdz_base.specs.declared.refusal.Refusal.{Refusal}
 use Rattle.bdz_base.specs.declared.verts.Kind.{Kind}
 use Rattle.bdz_base.specs.declared.verts.Kind.TheVariants.{Assigned, Compact}
 use Rattle.bdz_table.specs.Lookup.{finished_of, finish_of}
 use Rattle.bdz_table.specs.Rank.{answered}
-use Rattle.bdz_table.specs.declared.index.Answer.{Answer}
+use Rattle.bdz_table.specs.Told.{Answer}
 use Rattle.bdz_table.specs.declared.index.Index.{Index}
-use Rattle.bdz_image.specs.declared.ask.Words.{Words}
-use Rattle.bdz_image.specs.declared.feed.Feed.{Feed}
-use Rattle.bdz_image.specs.Ask.{words_of}
+use Rattle.bdz_image.specs.declared.feed.Counts.{Counts}
+use Rattle.bdz_image.specs.Ask.{Words, words_of}
 use Rattle.bdz_image.specs.Entry.{entry_at}
 use Rattle.bdz_image.specs.Feed.{slot}
 use Rattle.bdz_image.specs.Page.{page_no, page_slots}
@@ -80,7 +80,16 @@ fresh_slots index keys = replicate (3 * keys) (slot (2 ^ index.width - 1) 0)
 abbrev pub begun : Index → ℕ → ℕ → List ℕ → List ℕ → List ℕ
 begun index keys number new old = cond (lists_pages index keys) (written number new old) old
 
--- "A refused call answers its number, with every other field zero"
+-- what a start tells: "A refused call answers its number, with every other field zero"
+pub record Feed : Type 0 where
+  pub no : ℕ
+  pub keys : ℕ
+  pub pages : ℕ
+
+abbrev pub told_counts : Result Counts Refusal → Feed
+told_counts (Ok counts) = record { no = 0; keys = counts.keys; pages = counts.pages }
+told_counts (Err refusal) = record { no = number refusal; keys = 0; pages = 0 }
+
 unfoldable pub feed_of : Index → List ℕ → ℕ → Feed
 feed_of index keys number =
     cond (eqb number 0)

@@ -13,5 +13,4 @@ pub mod Radix
 pub mod Sort
 pub mod Start
 pub mod Sweep
-pub mod Text
 pub mod Write

@@ -1,10 +1,10 @@
 -- What opening an image answers, from its first bytes and its length. Assumes nothing.
-use Rattle.std.specs.Prelude.{Bool, cond, not, ◌&&◌, ◌||◌, List, ℕ, eqb, ltb, length, take}
+use Rattle.std.specs.Prelude.{Bool, false, cond, not, ◌&&◌, ◌||◌, List, ℕ, eqb, ltb, length, take}
 use Rattle.bdz_base.specs.Refusal.{refuse, accept}
 use Rattle.bdz_base.specs.declared.verts.Kind.{Kind}
 use Rattle.bdz_base.specs.declared.verts.Kind.TheVariants.{Assigned, Compact}
 use Rattle.bdz_table.specs.Build.{built_for}
-use Rattle.bdz_table.specs.declared.index.Built.{Built}
+use Rattle.bdz_table.specs.Told.{Built}
 use Rattle.bdz_table.specs.declared.index.Index.{Index}
 use Rattle.bdz_image.specs.declared.header.Header.{Header}
 use Rattle.bdz_image.specs.Header.{header_at}
@@ -18,6 +18,15 @@ opened_m n m = cond (eqb n 0) 0 (cond (eqb n 1) 1 m)
 
 abbrev pub opened_seed : ℕ → ℕ → ℕ
 opened_seed n seed = cond (eqb n 0) 0 seed
+
+-- "the opened modulus is n" in BDZ3
+abbrev pub opened_modulus : Kind → Header → ℕ
+opened_modulus Assigned h = h.modulus
+opened_modulus Compact h = h.n
+
+abbrev pub opened_width : Kind → ℕ → ℕ
+opened_width Assigned width = width
+opened_width Compact width = 2
 
 unfoldable pub packed_index : Header → Index
 packed_index h =
@@ -37,6 +46,15 @@ lacks_header first len = ltb first 32 || ltb len 32
 -- "n over 1 with m or modulus 0"
 abbrev pub lacks_modulus : ℕ → ℕ → ℕ → Bool
 lacks_modulus n m modulus = ltb 1 n && (eqb m 0 || eqb modulus 0)
+
+-- by kind: "10 (width 0 or over 32)", "10 (width not 2)"; BDZ3 holds no modulus
+abbrev pub lacks_width : Kind → ℕ → Bool
+lacks_width Assigned width = eqb width 0 || ltb 32 width
+lacks_width Compact width = not (eqb width 2)
+
+abbrev pub kind_lacks_modulus : Kind → Header → Bool
+kind_lacks_modulus Assigned h = lacks_modulus h.n h.m h.modulus
+kind_lacks_modulus Compact h = false
 
 -- "Open BDZ2: 6, 8, 9, 10 (width 0 or over 32), n = 0 accepted, 11 (n over 1 with m or modulus 0), 7": what comes after 6
 unfoldable pub packed_no : Header → ℕ → ℕ
@@ -59,6 +77,11 @@ compact_no h len =
     (refuse 7 (ltb len (size_of Compact 2 (opened_m h.n h.m)))
     0))))
 
+-- by kind
+abbrev pub header_no : Kind → Header → ℕ → ℕ
+header_no Assigned = packed_no
+header_no Compact = compact_no
+
 -- ---- the openers
 
 unfoldable pub open_packed : List ℕ → ℕ → Built
@@ -68,6 +91,13 @@ open_packed first len =
 unfoldable pub open_compact : List ℕ → ℕ → Built
 open_compact first len =
     built_for (refuse 7 (lacks_header (length first) len) (compact_no (header_at first) len)) (compact_index (header_at first))
+
+-- by kind, and by the number of a header that is too short
+abbrev pub opened_by : ℕ → Kind → List ℕ → ℕ → Built
+opened_by short kind first len =
+    let h = header_at first in
+    built_for (refuse short (lacks_header (length first) len) (header_no kind h len))
+    (record { kind = kind; n = h.n; m = opened_m h.n h.m; seed = opened_seed h.n h.seed; modulus = opened_modulus kind h; width = opened_width kind h.width })
 
 -- "The opener takes the first 32 bytes, or all if fewer, and the length": of a whole file
 unfoldable pub open_file : Kind → List ℕ → Built

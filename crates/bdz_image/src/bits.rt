@@ -1,9 +1,26 @@
 // Bits of a word, cut off and put together.
-ghost use Rattle.std.specs.Prelude.{◌≡◌, ◌+◌, ◌*◌, ◌%◌, ◌^◌, ◌≤◌, ◌<◌};
+ghost use Rattle.std.specs.Prelude.{◌≡◌, ◌+◌, ◌*◌, ◌/◌, ◌%◌, ◌^◌, ◌≤◌, ◌<◌};
 ghost use Rattle.bdz_base.specs.Pack.{bits_at};
 
 use bdz_base::pack::extract_g_window;
 
+// The 32 lowest bits.
+pub(crate) fn low(x: u64) -> u32
+    ensures { result ≡ x % 2 ^ 32 }
+{
+    (x & 0xffff_ffff) as u32
+}
+
+// The bits above them.
+pub(crate) fn high(x: u64) -> u32
+    ensures { result ≡ x / 2 ^ 32 }
+{
+    (x >> 32) as u32
+}
+
+// This and `join` stand in bdz_base too, for its own use: a public function asks nothing of its callers, and testing the
+// count would cost at each slot.
+//
 // The lowest bits of x, as many as `count` says.
 pub(crate) fn low_bits(x: u64, count: u32) -> u64
     requires { count ≤ 32 }

@@ -18,12 +18,10 @@ pub(crate) fn entries(kind: Kind, keys: &[u64], seed: u64, m: u32, order: &mut [
     requires { (0 < m) × (length order.old ≡ 3 * length keys.now) × (length order.old ≤ 2 ^ 32) }
     ensures { order.new ≡ tab (entry_at kind keys.now seed m) (length order.old) }
 {
-    let mut i = 0;
-    while i < keys.len() {
-        let v = hash_verts(keys[i], seed, m, kind);
+    for (i, &key) in keys.iter().enumerate() {
+        let v = hash_verts(key, seed, m, kind);
         order[3 * i] = entry(v.a, 3 * i);
         order[3 * i + 1] = entry(v.b, 3 * i + 1);
         order[3 * i + 2] = entry(v.c, 3 * i + 2);
-        i += 1;
     }
 }

@@ -1,8 +1,9 @@
 // The 32 bytes that an image starts with.
-ghost use Rattle.std.specs.Prelude.{◌≡◌, ◌/◌, ◌%◌, ◌^◌, length};
+ghost use Rattle.std.specs.Prelude.{◌≡◌, length};
 ghost use Rattle.bdz_image.specs.Header.{header_bytes, header_at};
 ghost use Rattle.bdz_image.specs.Image.{magic_of, modulus_in, header_of};
 
+use super::bits::{high, low};
 use bdz_base::pack::{pack_g, unpack_g_at};
 use bdz_base::verts::Kind;
 use bdz_base::words::le64;
@@ -21,7 +22,7 @@ pub struct Header {
 }
 
 // BDZ2 or BDZ3.
-fn magic_of(kind: Kind) -> u32
+pub(crate) fn magic_of(kind: Kind) -> u32
     ensures { result ≡ magic_of kind }
 {
     match kind {
@@ -71,18 +72,6 @@ pub(crate) fn read_header(first: &[u8]) -> Header
     }
 }
 
-fn low_half(x: u64) -> u32
-    ensures { result ≡ x % 2 ^ 32 }
-{
-    (x % 0x1_0000_0000) as u32
-}
-
-fn high_half(x: u64) -> u32
-    ensures { result ≡ x / 2 ^ 32 }
-{
-    (x / 0x1_0000_0000) as u32
-}
-
 // A header into its 32 bytes: eight words of 32 bits, of which two are the seed.
 pub(crate) fn put_header(h: Header, out: &mut [u8])
     requires { length out.old ≡ 32 }
@@ -93,10 +82,10 @@ pub(crate) fn put_header(h: Header, out: &mut [u8])
         h.version,
         h.n,
         h.m,
-        low_half(h.seed),
-        high_half(h.seed),
+        low(h.seed),
+        high(h.seed),
         h.modulus,
         h.width,
     ];
-    pack_g(&words, 32, out);
+    pack_g(&words, 32, out).unwrap();
 }

@@ -16,5 +16,4 @@ pub mod size;
 pub mod slot;
 pub mod start;
 pub mod sweep;
-pub mod text;
 pub mod write;

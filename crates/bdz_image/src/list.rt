@@ -1,35 +1,27 @@
 // The pages that a feed lists.
-ghost use Rattle.std.specs.Prelude.{◌≡◌, ◌+◌, ◌-◌, ◌*◌, ◌/◌, ◌%◌, ◌^◌, ◌≤◌, ◌<◌, length, replicate};
+ghost use Rattle.std.specs.Prelude.{◌≡◌, ◌+◌, ◌-◌, ◌*◌, ◌/◌, ◌%◌, ◌^◌, ◌<◌, length};
 ghost use Rattle.bdz_base.specs.Pages.{last_page};
 ghost use Rattle.bdz_image.specs.Pages.{own_page, Listing, list_of, padded};
 ghost use Rattle.bdz_image.specs.Sweep.{vertex_in};
 
-fn zero(pages: &mut [u32])
-    ensures { pages.new ≡ replicate (length pages.old) 0 }
-{
-    let mut k = 0;
-    while k < pages.len() {
-        pages[k] = 0;
-        k += 1;
-    }
-}
+use bdz_base::width::Width;
 
 // The last page of an entry's word.
-fn last_page(entry: u64, width: u32) -> u32
-    requires { (0 < width) × (width ≤ 32) }
-    ensures { (result ≡ last_page width (vertex_in entry)) × (result < 2 ^ 23) }
+fn last_page(entry: u64, width: Width) -> u32
+    ensures { (result ≡ last_page width.bits (vertex_in entry)) × (result < 2 ^ 23) }
 {
-    (((entry >> 32) * width as u64 + (width as u64 - 1)) / 32768) as u32
+    let bits = width.bits() as u64;
+    (((entry >> 32) * bits + (bits - 1)) / 32768) as u32
 }
 
 // The first page of an entry's word, or with odd i the last.
-fn own_page(order: &[u64], i: usize, width: u32) -> u32
-    requires { (i < 2 * length order.now) × (0 < width) × (width ≤ 32) }
-    ensures { (result ≡ own_page width order.now i) × (result < 2 ^ 23) }
+fn own_page(order: &[u64], i: usize, width: Width) -> u32
+    requires { i < 2 * length order.now }
+    ensures { (result ≡ own_page width.bits order.now i) × (result < 2 ^ 23) }
 {
     let entry = order[i / 2];
     if i % 2 == 0 {
-        return ((entry >> 32) * width as u64 / 32768) as u32;
+        return ((entry >> 32) * width.bits() as u64 / 32768) as u32;
     }
     last_page(entry, width)
 }
@@ -42,11 +34,11 @@ struct Listed {
 }
 
 // One page of the row is listed, if it is not behind.
-fn note(order: &[u64], i: usize, width: u32, so_far: Listed, pages: &mut [u32]) -> Listed
-    requires { (0 < width) × (width ≤ 32) × (i < 2 * length order.now)
-        × Listing (own_page width order.now) (2 * length order.now) so_far.count so_far.next i
+fn note(order: &[u64], i: usize, width: Width, so_far: Listed, pages: &mut [u32]) -> Listed
+    requires { (i < 2 * length order.now)
+        × Listing (own_page width.bits order.now) (2 * length order.now) so_far.count so_far.next i
         pages.old }
-    ensures { Listing (own_page width order.now) (2 * length order.now) result.count result.next
+    ensures { Listing (own_page width.bits order.now) (2 * length order.now) result.count result.next
         (i + 1) pages.new }
 {
     let page = own_page(order, i, width);
@@ -62,11 +54,11 @@ fn note(order: &[u64], i: usize, width: u32, so_far: Listed, pages: &mut [u32]) 
 }
 
 // Both pages of an entry's word. Mostly the last of them is listed already, and then the first is too.
-fn note_both(order: &[u64], i: usize, width: u32, so_far: Listed, pages: &mut [u32]) -> Listed
-    requires { (0 < width) × (width ≤ 32) × (i < length order.now)
-        × Listing (own_page width order.now) (2 * length order.now) so_far.count so_far.next (2 * i)
+fn note_both(order: &[u64], i: usize, width: Width, so_far: Listed, pages: &mut [u32]) -> Listed
+    requires { (i < length order.now)
+        × Listing (own_page width.bits order.now) (2 * length order.now) so_far.count so_far.next (2 * i)
         pages.old }
-    ensures { Listing (own_page width order.now) (2 * length order.now) result.count result.next
+    ensures { Listing (own_page width.bits order.now) (2 * length order.now) result.count result.next
         (2 * (i + 1)) pages.new }
 {
     if last_page(order[i], width) < so_far.next {
@@ -77,17 +69,15 @@ fn note_both(order: &[u64], i: usize, width: u32, so_far: Listed, pages: &mut [u
 }
 
 // The pages of the words of an order, rising, each once, and zeros behind them. How many they are.
-pub(crate) fn list(order: &[u64], width: u32, pages: &mut [u32]) -> usize
-    requires { (0 < width) × (width ≤ 32) × (length pages.old ≡ 2 * length order.now) }
-    ensures { (result ≡ length (list_of width order.now))
-        × (pages.new ≡ padded (length pages.old) (list_of width order.now)) }
+pub(crate) fn list(order: &[u64], width: Width, pages: &mut [u32]) -> usize
+    requires { length pages.old ≡ 2 * length order.now }
+    ensures { (result ≡ length (list_of width.bits order.now))
+        × (pages.new ≡ padded (length pages.old) (list_of width.bits order.now)) }
 {
-    zero(pages);
+    pages.fill(0);
     let mut so_far = Listed { count: 0, next: 0 };
-    let mut i = 0;
-    while i < order.len() {
+    for i in 0..order.len() {
         so_far = note_both(order, i, width, so_far, pages);
-        i += 1;
     }
     so_far.count
 }

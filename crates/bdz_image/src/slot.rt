@@ -1,21 +1,16 @@
 // A slot: the word of a vertex as far as its pages have come, with the bits still missing above it.
-ghost use Rattle.std.specs.Prelude.{◌≡◌, ◌+◌, ◌-◌, ◌*◌, ◌/◌, ◌%◌, ◌^◌, ◌≤◌, ◌<◌, min};
+ghost use Rattle.std.specs.Prelude.{◌≡◌, ◌+◌, ◌-◌, ◌*◌, ◌/◌, ◌%◌, ◌^◌, ◌≤◌, ◌<◌};
 ghost use Rattle.bdz_image.specs.Feed.{put_low, put_high, taken_of, taken_bits, taken_low, taken_high, cut_of};
 
 use super::bits::{bits_at, join, low_bits};
-
-fn smaller(a: u32, b: u64) -> u32
-    ensures { result ≡ min a b }
-{
-    if (a as u64) < b { a } else { b as u32 }
-}
+use bdz_base::width::Width;
 
 // How many bits of the word at v lie in its first page.
-pub(crate) fn cut_of(v: u32, width: u32) -> u32
-    requires { width ≤ 32 }
-    ensures { result ≡ cut_of width v }
+pub(crate) fn cut_of(v: u32, width: Width) -> u32
+    ensures { result ≡ cut_of width.bits v }
 {
-    smaller(width, 32768 - v as u64 * width as u64 % 32768)
+    let bits = width.bits() as u64;
+    bits.min(32768 - v as u64 * bits % 32768) as u32
 }
 
 // old, with its k lowest bits replaced by x.
@@ -48,21 +43,19 @@ fn take_bits(bytes: &[u8], at: u64, k: u32, slot: u64) -> u64
 }
 
 // The slot after the first page of its word came.
-fn take_low(bytes: &[u8], v: u32, width: u32, slot: u64) -> u64
-    requires { width ≤ 32 }
-    ensures { result ≡ taken_low width bytes.now v slot }
+fn take_low(bytes: &[u8], v: u32, width: Width, slot: u64) -> u64
+    ensures { result ≡ taken_low width.bits bytes.now v slot }
 {
-    let at = v as u64 * width as u64 % 32768;
+    let at = v as u64 * width.bits() as u64 % 32768;
     take_bits(bytes, at, cut_of(v, width), slot)
 }
 
 // The slot after the next page came.
-fn take_high(bytes: &[u8], v: u32, width: u32, slot: u64) -> u64
-    requires { width ≤ 32 }
-    ensures { result ≡ taken_high width bytes.now v slot }
+fn take_high(bytes: &[u8], v: u32, width: Width, slot: u64) -> u64
+    ensures { result ≡ taken_high width.bits bytes.now v slot }
 {
     let k = cut_of(v, width);
-    let x = bits_at(bytes, 0, width - k) as u64;
+    let x = bits_at(bytes, 0, width.bits() - k) as u64;
     join(
         put_high(slot & 0xffff_ffff, x, k),
         put_high(slot >> 32, 0, k),
@@ -72,15 +65,15 @@ fn take_high(bytes: &[u8], v: u32, width: u32, slot: u64) -> u64
 
 // The slot of the word at v after a page came. Most words lie in one page, and their width is that of all: a loop makes
 // its masks once.
-pub(crate) fn slot_take(page: u32, bytes: &[u8], v: u32, width: u32, slot: u64) -> u64
-    requires { width ≤ 32 }
-    ensures { result ≡ taken_of width page bytes.now v slot }
+pub(crate) fn slot_take(page: u32, bytes: &[u8], v: u32, width: Width, slot: u64) -> u64
+    ensures { result ≡ taken_of width.bits page bytes.now v slot }
 {
-    let bit = v as u64 * width as u64;
+    let bits = width.bits();
+    let bit = v as u64 * bits as u64;
     let first = bit / 32768;
     if page as u64 == first {
-        if bit % 32768 + width as u64 <= 32768 {
-            return take_bits(bytes, bit % 32768, width, slot);
+        if bit % 32768 + bits as u64 <= 32768 {
+            return take_bits(bytes, bit % 32768, bits, slot);
         }
         return take_low(bytes, v, width, slot);
     }

@@ -1,4 +1,5 @@
 -- The counts, as far as they have come, and what a full count means. Assumes nothing.
+use mir.Val.{bool_byte}
 use mathlib.Core.Path.{◌≡◌, refl, sym, ap, ◌∙◌, subst}
 use mathlib.Core.Bool.{Bool, true, false, not, cond, ◌&&◌}
 use mathlib.Core.List.{List, [], ◌∷◌, ◌++◌}
@@ -30,6 +31,11 @@ pub record Comparing (values answers : List ℕ) (same i : ℕ) : Type 0 where
 
 pub comparing_none : (values answers : List ℕ) → Comparing values answers 0 0
 comparing_none values answers = record { few = omega arith; left = zero-add _ }
+
+-- a place counts where the test holds
+pub one_same : {one : ℕ} (b : Bool) → one ≡ bool_byte b → (one ≡ only_if b 1) × (one ≤ 1)
+one_same true e = (e, omega (arith, e))
+one_same false e = (e, omega (arith, e))
 
 pub comparing_more : {values answers : List ℕ} {same i one : ℕ} → Comparing values answers same i → i < length values → i < length answers → (one ≡ only_if (eqb (get_or answers i 0) (get_or values i 0)) 1) × (one ≤ 1) → Comparing values answers (same + one) (i + 1)
 unfolding same_count

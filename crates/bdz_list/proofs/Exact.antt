@@ -19,8 +19,7 @@ use Rattle.bdz_base.specs.declared.verts.Kind.TheVariants.{Assigned, Compact}
 use Rattle.bdz_base.proofs.Digits.{value_take, value_drop}
 use Rattle.bdz_table.proofs.Bits.{AllBytes}
 use Rattle.bdz_table.proofs.Has.{or_true}
-use Rattle.bdz_list.specs.declared.list.Listed.{Listed}
-use Rattle.bdz_list.specs.List.{place_of, letter_of, list_count, marked, records_are, list_key, list_value, list_modulus, shaped, assigned_list, compact_list, list_kind, lacks_list, list_no, refused_list, listed_of, ReadList}
+use Rattle.bdz_list.specs.List.{Listed, place_of, letter_of, list_count, marked, records_are, list_key, list_value, list_modulus, shaped, assigned_list, compact_list, list_kind, lacks_list, list_no, refused_list, listed_of, ReadList}
 use Rattle.bdz_list.specs.Written.{Entry, no_entry, assigned_record, compact_record, joined, assigned_bytes, compact_bytes, WrittenAssigned, WrittenCompact}
 use Rattle.bdz_list.proofs.Reading.{is_assigned, is_compact}
 use Rattle.bdz_list.proofs.Records.{both, shaped_few, shaped_whole, shaped_records}

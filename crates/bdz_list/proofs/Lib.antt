@@ -4,3 +4,4 @@ pub mod Numbers
 pub mod OneAnswer
 pub mod Reading
 pub mod Records
+pub mod ToldLaws

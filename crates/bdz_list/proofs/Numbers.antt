@@ -7,8 +7,7 @@ use lib.ListN.{length, get_or}
 use Rattle.bdz_base.specs.Buffer.{over}
 use Rattle.bdz_base.specs.Pack.{bytes_of}
 use Rattle.bdz_base.specs.declared.verts.Kind.TheVariants.{Assigned}
-use Rattle.bdz_list.specs.declared.list.Listed.{Listed}
-use Rattle.bdz_list.specs.List.{ReadList}
+use Rattle.bdz_list.specs.List.{Listed, ReadList}
 use Rattle.bdz_list.specs.Tally.{same_count}
 use Rattle.bdz_list.specs.Written.{Entry, no_entry, assigned_record, joined, assigned_bytes}
 use Rattle.bdz_list.proofs.Reading.{reads_assigned}

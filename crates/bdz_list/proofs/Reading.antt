@@ -16,8 +16,7 @@ use Rattle.bdz_base.specs.declared.verts.Kind.TheVariants.{Assigned, Compact}
 use Rattle.bdz_base.proofs.Buffers.{length_tab}
 use Rattle.bdz_base.proofs.Digits.{length_bytes, value_bytes, value_take, bits_drop}
 use Rattle.bdz_table.proofs.Bits.{tab_at}
-use Rattle.bdz_list.specs.declared.list.Listed.{Listed}
-use Rattle.bdz_list.specs.List.{place_of, letter_of, list_count, marked, records_are, list_key, list_value, list_modulus, shaped, assigned_list, compact_list, list_no, listed_of, ReadList}
+use Rattle.bdz_list.specs.List.{Listed, place_of, letter_of, list_count, marked, records_are, list_key, list_value, list_modulus, shaped, assigned_list, compact_list, list_no, listed_of, ReadList}
 use Rattle.bdz_list.specs.Written.{Entry, no_entry, assigned_record, compact_record, joined, assigned_bytes, compact_bytes}
 
 -- ---- bytes at a place

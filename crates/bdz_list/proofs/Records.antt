@@ -15,8 +15,7 @@ use Rattle.bdz_base.specs.Refusal.{refuse}
 use Rattle.bdz_base.specs.declared.verts.Kind.{Kind}
 use Rattle.bdz_base.specs.declared.verts.Kind.TheVariants.{Assigned, Compact}
 use Rattle.bdz_table.proofs.Fold.{clash}
-use Rattle.bdz_list.specs.declared.list.Listed.{Listed}
-use Rattle.bdz_list.specs.List.{place_of, letter_of, list_count, marked, records_are, list_key, list_value, list_modulus, shaped, assigned_list, compact_list, kind_if, list_kind, value_count, lacks_list, list_no, refused_list, listed_of, ReadList}
+use Rattle.bdz_list.specs.List.{Listed, place_of, letter_of, list_count, marked, records_are, list_key, list_value, list_modulus, shaped, assigned_list, compact_list, kind_if, list_kind, value_count, lacks_list, list_no, refused_list, listed_of, ReadList, kind_no}
 
 -- ---- tests
 
@@ -175,21 +174,35 @@ passed bytes keys values e =
     }
 
 -- the two refusals, and none
-pub no_list : (bytes : List ℕ) (keys values : ℕ) {bad : Bool} → bad ≡ not (assigned_list bytes || compact_list bytes) → bad ≡ true → 19 ≡ list_no bytes keys values
-unfolding list_no
-no_list bytes keys values b h = rw (← b, h)
+-- what is no list, and a list whose keys or values have no room
+pub no_list : (bytes : List ℕ) (keys values : ℕ) {number : ℕ} → number ≡ kind_no bytes → (number ≡ 0 → ⊥) → number ≡ list_no bytes keys values
+unfolding kind_no list_no
+no_list bytes keys values {number} e some = e ∙ go (not (assigned_list bytes || compact_list bytes)) (λ z. some (e ∙ z))
+  where
+    go : (bad : Bool) → (refuse 19 bad 0 ≡ 0 → ⊥) → refuse 19 bad 0 ≡ refuse 19 bad (refuse 14 (lacks_list (list_kind bytes) (list_count (list_kind bytes) bytes) keys values) 0)
+    go true h = refl
+    go false h = absurd (h refl)
 
-module _ (bytes : List ℕ) (keys values : ℕ) {assigned bad lacks : Bool} {kind : Kind} {n : ℕ} (a : assigned ≡ assigned_list bytes) (b : bad ≡ not (assigned_list bytes || compact_list bytes)) (good : bad ≡ false) (k : kind ≡ kind_if assigned) (e : n ≡ list_count kind bytes) (l : lacks ≡ lacks_list kind n keys values) where
+-- a list is the only thing that is judged further
+good_list : (bytes : List ℕ) → 0 ≡ kind_no bytes → not (assigned_list bytes || compact_list bytes) ≡ false
+unfolding kind_no
+good_list bytes e = go (not (assigned_list bytes || compact_list bytes)) e
+  where
+    go : (bad : Bool) → 0 ≡ refuse 19 bad 0 → bad ≡ false
+    go true h = absurd (omega (arith, h))
+    go false h = refl
+
+module _ (bytes : List ℕ) (keys values : ℕ) {lacks : Bool} {kind : Kind} {n : ℕ} (good : 0 ≡ kind_no bytes) (k : kind ≡ list_kind bytes) (e : n ≡ list_count kind bytes) (l : lacks ≡ lacks_list kind n keys values) where
   lacks_is : lacks ≡ lacks_list (list_kind bytes) (list_count (list_kind bytes) bytes) keys values
-  lacks_is = rw (e, k, a) at l
+  lacks_is = rw (e, k) at l
 
   pub no_room : lacks ≡ true → 14 ≡ list_no bytes keys values
   unfolding list_no
-  no_room h = rw (← b, good, ← lacks_is, h)
+  no_room h = rw (good_list bytes good, ← lacks_is, h)
 
   pub no_refusal : lacks ≡ false → 0 ≡ list_no bytes keys values
   unfolding list_no
-  no_refusal h = rw (← b, good, ← lacks_is, h)
+  no_refusal h = rw (good_list bytes good, ← lacks_is, h)
 
 -- ---- the returns of the reader
 
@@ -199,10 +212,7 @@ list_refused bytes keys values {number} e h is =
     let ne = ne_eqb number 0 h in
     record { answer_is = rw (← e, ne) is; keys_are = rw (← e, ne); values_are = rw (← e, ne) }
 
-module _ (bytes keys values : List ℕ) {assigned : Bool} {kind : Kind} {n : ℕ} (a : assigned ≡ assigned_list bytes) (k : kind ≡ kind_if assigned) (e : n ≡ list_count kind bytes) where
-  is_kind : kind ≡ list_kind bytes
-  is_kind = k ∙ ap kind_if a
-
+module _ (bytes keys values : List ℕ) {kind : Kind} {n : ℕ} (is_kind : kind ≡ list_kind bytes) (e : n ≡ list_count kind bytes) where
   is_count : n ≡ list_count (list_kind bytes) bytes
   is_count = e ∙ ap (λ (x : Kind). list_count x bytes) is_kind
 

@@ -1,11 +1,12 @@
 -- The key list of the programs: its two shapes, and what reading it answers and leaves. Assumes nothing.
-use Rattle.std.specs.Prelude.{◌≡◌, Bool, true, not, cond, ◌&&◌, ◌||◌, List, ℕ, zero, suc, ◌+◌, ◌-◌, ◌*◌, ◌/◌, eqb, ltb, length, get_or}
+use Rattle.std.specs.Prelude.{◌≡◌, Bool, true, not, cond, ◌&&◌, ◌||◌, List, ℕ, zero, suc, ◌+◌, ◌-◌, ◌*◌, ◌/◌, eqb, ltb, length, get_or, Result, Ok, Err}
 use Rattle.bdz_base.specs.Buffer.{tab, written}
 use Rattle.bdz_base.specs.Pack.{bits_at}
-use Rattle.bdz_base.specs.Refusal.{refuse}
+use Rattle.bdz_base.specs.Refusal.{number, refuse}
+use Rattle.bdz_base.specs.declared.refusal.Refusal.{Refusal}
 use Rattle.bdz_base.specs.declared.verts.Kind.{Kind}
 use Rattle.bdz_base.specs.declared.verts.Kind.TheVariants.{Assigned, Compact}
-use Rattle.bdz_list.specs.declared.list.Listed.{Listed}
+use Rattle.bdz_list.specs.declared.list.KeyList.{KeyList}
 
 -- ---- the records
 
@@ -89,6 +90,10 @@ value_count Compact n = 0
 abbrev pub lacks_list : Kind → ℕ → ℕ → ℕ → Bool
 lacks_list kind n keys values = ltb keys n || ltb values (value_count kind n)
 
+-- 19 "bad list"
+unfoldable pub kind_no : List ℕ → ℕ
+kind_no bytes = refuse 19 (not (assigned_list bytes || compact_list bytes)) 0
+
 -- 19 "bad list", then 14
 unfoldable pub list_no : List ℕ → ℕ → ℕ → ℕ
 list_no bytes keys values =
@@ -98,9 +103,19 @@ list_no bytes keys values =
 
 -- ---- the answer
 
--- "A refused call answers its number, with every other field zero"
+-- what reading tells: "A refused call answers its number, with every other field zero"
+pub record Listed : Type 0 where
+  pub no : ℕ
+  pub kind : Kind
+  pub modulus : ℕ
+  pub count : ℕ
+
 abbrev pub refused_list : ℕ → Listed
 refused_list number = record { no = number; kind = Assigned; modulus = 0; count = 0 }
+
+abbrev pub told_list : Result KeyList Refusal → Listed
+told_list (Ok list) = record { no = 0; kind = list.kind; modulus = list.modulus; count = list.count }
+told_list (Err refusal) = refused_list (number refusal)
 
 unfoldable pub listed_of : ℕ → Kind → List ℕ → Listed
 listed_of number kind bytes =

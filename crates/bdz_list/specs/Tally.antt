@@ -1,10 +1,10 @@
 -- How many answers are as they should be: the counts that are printed beside a list. Assumes nothing.
-use Rattle.std.specs.Prelude.{◌≡◌, not, cond, ◌&&◌, List, [], ◌∷◌, ℕ, ◌+◌, eqb, ltb, length, replicate}
+use Rattle.std.specs.Prelude.{◌≡◌, not, cond, ◌&&◌, List, [], ◌∷◌, ℕ, ◌+◌, eqb, ltb, length, replicate, Result, Ok, Err}
 use Rattle.bdz_base.specs.Buffer.{written}
-use Rattle.bdz_base.specs.Refusal.{refuse}
+use Rattle.bdz_base.specs.Refusal.{number, refuse}
 use Rattle.bdz_base.specs.Sizes.{occupancy_bytes}
+use Rattle.bdz_base.specs.declared.refusal.Refusal.{Refusal}
 use Rattle.bdz_table.specs.Graph.{has, only_if}
-use Rattle.bdz_list.specs.declared.tally.Held.{Held}
 
 -- "listed keys, those whose answer matches, the rest": the places of both lists that hold the same number
 unfoldable pub same_count : List ℕ → List ℕ → ℕ
@@ -21,7 +21,15 @@ holders n earlier (x ∷ answers) = only_if (ltb x n && not (has x earlier)) 1 +
 unfoldable pub holders_no : ℕ → ℕ → ℕ
 holders_no n seen = refuse 14 (ltb seen (occupancy_bytes n)) 0
 
--- "A refused call answers its number, with every other field zero"
+-- what a count tells: "A refused call answers its number, with every other field zero"
+pub record Held : Type 0 where
+  pub no : ℕ
+  pub count : ℕ
+
+abbrev pub told_count : Result ℕ Refusal → Held
+told_count (Ok count) = record { no = 0; count = count }
+told_count (Err refusal) = record { no = number refusal; count = 0 }
+
 abbrev pub held_of : ℕ → ℕ → Held
 held_of number count = cond (eqb number 0) (record { no = 0; count = count }) (record { no = number; count = 0 })
 

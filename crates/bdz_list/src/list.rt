@@ -1,17 +1,17 @@
 // The key list of the programs: judged, and read into lent words.
-ghost use Rattle.std.specs.Prelude.{◌≡◌, not, ◌||◌, ◌+◌, ◌-◌, ◌≤◌, ◌<◌, length};
+ghost use Rattle.std.specs.Prelude.{◌≡◌, ◌+◌, ◌≤◌, ◌<◌, length, IfOk};
 ghost use Rattle.bdz_base.specs.Buffer.{tab, over};
-ghost use Rattle.bdz_list.specs.List.{place_of, letter_of, records_in, marked, records_are, list_key, list_value, list_modulus, shaped, assigned_list, compact_list, kind_if, value_count, lacks_list, list_no, refused_list, ReadList};
+ghost use Rattle.bdz_base.specs.Refusal.{number_of};
+ghost use Rattle.bdz_list.specs.List.{place_of, letter_of, records_in, marked, records_are, list_key, list_value, list_modulus, shaped, assigned_list, compact_list, kind_no, list_kind, value_count, lacks_list, told_list, ReadList};
 
 use bdz_base::pack::extract_g_window;
-use bdz_base::refusal::{ACCEPTED, BAD_LIST, NO_ROOM};
+use bdz_base::refusal::Refusal;
 use bdz_base::verts::Kind;
 use bdz_base::words::le64;
 
-// A refusal number, or 0 with the list's kind, its modulus (0 in a compact list) and how many keys it has.
+// What a list is of: its kind, its modulus (0 in a compact list) and how many keys it has.
 #[derive(Clone, Copy)]
-pub struct Listed {
-    pub no: u32,
+pub struct KeyList {
     pub kind: Kind,
     pub modulus: u32,
     pub count: u32,
@@ -38,22 +38,12 @@ fn letter(kind: Kind) -> u8
     }
 }
 
-// a less b, or 0.
-fn less(a: usize, b: usize) -> usize
-    ensures { result ≡ a - b }
-{
-    if a < b {
-        return 0;
-    }
-    a - b
-}
-
 // How many records so many bytes have room for.
 fn records_in(kind: Kind, bytes: usize) -> usize
     ensures { result ≡ records_in kind bytes }
 {
     match kind {
-        Kind::Assigned => less(bytes, 6) / 14,
+        Kind::Assigned => bytes.saturating_sub(6) / 14,
         Kind::Compact => bytes / 10,
     }
 }
@@ -75,12 +65,10 @@ fn records_are(kind: Kind, bytes: &[u8], n: usize) -> bool
     ensures { result ≡ records_are kind bytes.now n }
 {
     let second = letter(kind);
-    let mut i: usize = 0;
-    while i < n {
+    for i in 0..n {
         if !is_marked(bytes, place(kind, i), second) {
             return false;
         }
-        i += 1;
     }
     true
 }
@@ -132,13 +120,18 @@ fn is_compact(bytes: &[u8]) -> bool
     is_shaped(Kind::Compact, bytes)
 }
 
-fn kind_if(assigned: bool) -> Kind
-    ensures { result ≡ kind_if assigned }
+// The kind of a list; 19 of what is none.
+fn kind_of(bytes: &[u8]) -> Result<Kind, Refusal>
+    ensures number { number_of result ≡ kind_no bytes.now }
+    ensures kind { IfOk result (λ kind. kind ≡ list_kind bytes.now) }
 {
-    if assigned {
-        return Kind::Assigned;
+    if is_assigned(bytes) {
+        return Ok(Kind::Assigned);
     }
-    Kind::Compact
+    if is_compact(bytes) {
+        return Ok(Kind::Compact);
+    }
+    Err(Refusal::BadList)
 }
 
 // How many of n records have a value.
@@ -161,41 +154,13 @@ fn lacks_list(kind: Kind, n: usize, keys: usize, values: usize) -> bool
     values < value_count(kind, n)
 }
 
-// Neither shape is that of the bytes, of which it is known whether they are an assigned list.
-fn is_bad(bytes: &[u8], assigned: bool) -> bool
-    requires { assigned ≡ assigned_list bytes.now }
-    ensures { result ≡ not (assigned_list bytes.now || compact_list bytes.now) }
-{
-    if assigned {
-        return false;
-    }
-    !is_compact(bytes)
-}
-
-// The refusal of a list, or 0.
-fn list_no(bytes: &[u8], assigned: bool, keys: usize, values: usize) -> u32
-    requires { assigned ≡ assigned_list bytes.now }
-    ensures { result ≡ list_no bytes.now keys values }
-{
-    if is_bad(bytes, assigned) {
-        return BAD_LIST;
-    }
-    let kind = kind_if(assigned);
-    if lacks_list(kind, records_in(kind, bytes.len()), keys, values) {
-        return NO_ROOM;
-    }
-    ACCEPTED
-}
-
 // One word a key.
 fn read_keys(kind: Kind, bytes: &[u8], n: usize, keys: &mut [u64])
     requires { (n ≤ 1000) × (n ≤ length keys.old) }
     ensures { keys.new ≡ over (tab (list_key kind bytes.now) n) keys.old }
 {
-    let mut i: usize = 0;
-    while i < n {
+    for i in 0..n {
         keys[i] = le64(bytes, place(kind, i) + 2);
-        i += 1;
     }
 }
 
@@ -213,41 +178,25 @@ fn read_values(bytes: &[u8], n: usize, values: &mut [u32])
     requires { (n ≤ 1000) × (n ≤ length values.old) }
     ensures { values.new ≡ over (tab (list_value bytes.now) n) values.old }
 {
-    let mut i: usize = 0;
-    while i < n {
+    for i in 0..n {
         values[i] = value_at(bytes, i);
-        i += 1;
-    }
-}
-
-fn refused_list(no: u32) -> Listed
-    ensures { result ≡ refused_list no }
-{
-    Listed {
-        no,
-        kind: Kind::Assigned,
-        modulus: 0,
-        count: 0,
     }
 }
 
 // Reads a list: its keys, and the values of an assigned one. 19, 14.
-pub fn read_list(bytes: &[u8], keys: &mut [u64], values: &mut [u32]) -> Listed
-    ensures { ReadList bytes.now keys.old values.old result keys.new values.new }
+pub fn read_list(bytes: &[u8], keys: &mut [u64], values: &mut [u32]) -> Result<KeyList, Refusal>
+    ensures { ReadList bytes.now keys.old values.old (told_list result) keys.new values.new }
 {
-    let assigned = is_assigned(bytes);
-    let no = list_no(bytes, assigned, keys.len(), values.len());
-    if no != ACCEPTED {
-        return refused_list(no);
-    }
-    let kind = kind_if(assigned);
+    let kind = kind_of(bytes)?;
     let n = records_in(kind, bytes.len());
+    if lacks_list(kind, n, keys.len(), values.len()) {
+        return Err(Refusal::NoRoom);
+    }
     read_keys(kind, bytes, n, keys);
     read_values(bytes, value_count(kind, n), values);
-    Listed {
-        no: ACCEPTED,
+    Ok(KeyList {
         kind,
         modulus: modulus_in(kind, bytes),
         count: n as u32,
-    }
+    })
 }

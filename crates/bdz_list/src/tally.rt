@@ -1,61 +1,29 @@
 // How many answers are as they should be.
-ghost use Rattle.std.specs.Prelude.{◌≡◌, [], ◌/◌, ◌<◌, ◌≤◌, min, eqb, length, replicate};
+ghost use Rattle.std.specs.Prelude.{◌≡◌, [], ◌/◌, ◌<◌, min, eqb, length, replicate};
 ghost use Rattle.bdz_base.specs.Pack.{bits_at};
 ghost use Rattle.bdz_base.specs.Sizes.{occupancy_bytes};
-ghost use Rattle.bdz_table.specs.Graph.{only_if};
 ghost use Rattle.bdz_table.specs.Occupancy.{with_bit};
 ghost use Rattle.bdz_list.specs.Steps.{Counted};
-ghost use Rattle.bdz_list.specs.Tally.{same_count, holders, FirstHolders};
+ghost use Rattle.bdz_list.specs.Tally.{same_count, holders, told_count, FirstHolders};
 
-use bdz_base::refusal::{ACCEPTED, NO_ROOM};
+use bdz_base::refusal::Refusal;
 use bdz_base::size::occ_packed_bytes;
-
-// A refusal number, or 0 and how many answers are the first of their kind.
-#[derive(Clone, Copy)]
-pub struct Held {
-    pub no: u32,
-    pub count: u64,
-}
-
-fn fewer(a: usize, b: usize) -> usize
-    ensures { result ≡ min a b }
-{
-    if a < b { a } else { b }
-}
-
-fn one_if_same(answer: u32, value: u32) -> u64
-    ensures { (result ≡ only_if (eqb answer value) 1) × (result ≤ 1) }
-{
-    if answer == value {
-        return 1;
-    }
-    0
-}
 
 // How many answers are the values that they should be, as far as both go.
 pub fn same_values(values: &[u32], answers: &[u32]) -> u64
     ensures { result ≡ same_count values.now answers.now }
 {
-    let n = fewer(values.len(), answers.len());
+    let n = values.len().min(answers.len());
     let mut same: u64 = 0;
-    let mut i: usize = 0;
-    while i < n {
-        same += one_if_same(answers[i], values[i]);
-        i += 1;
+    for i in 0..n {
+        same += u64::from(answers[i] == values[i]);
     }
     same
 }
 
-fn zero(bytes: &mut [u8])
-    ensures { bytes.new ≡ replicate (length bytes.old) 0 }
-{
-    let mut i: usize = 0;
-    while i < bytes.len() {
-        bytes[i] = 0;
-        i += 1;
-    }
-}
-
+// This and `has_bit` stand in bdz_table too, for its own use: a public function asks nothing of its callers, and testing
+// the place would cost at each value of a build.
+//
 // The bit of x is set.
 fn set_bit(bytes: &mut [u8], x: u32)
     requires { x / 8 < length bytes.old }
@@ -95,10 +63,8 @@ fn hold_all(n: u32, answers: &[u32], seen: &mut [u8]) -> u64
     ensures { result ≡ holders n [] answers.now }
 {
     let mut count: u64 = 0;
-    let mut i: usize = 0;
-    while i < answers.len() {
-        count += hold(n, answers[i], seen);
-        i += 1;
+    for &answer in answers {
+        count += hold(n, answer, seen);
     }
     count
 }
@@ -108,26 +74,19 @@ fn hold_part(n: u32, answers: &[u32], seen: &mut [u8]) -> u64
     requires { length seen.old ≡ occupancy_bytes n }
     ensures { (result ≡ holders n [] answers.now) × (seen.new ≡ replicate (occupancy_bytes n) 0) }
 {
-    zero(seen);
+    seen.fill(0);
     let count = hold_all(n, answers, seen);
-    zero(seen);
+    seen.fill(0);
     count
 }
 
 // How many answers below n are the first of their kind, with a bit of `seen` for each number below n. 14.
-pub fn first_holders(n: u32, answers: &[u32], seen: &mut [u8]) -> Held
-    ensures { FirstHolders n answers.now seen.old result seen.new }
+pub fn first_holders(n: u32, answers: &[u32], seen: &mut [u8]) -> Result<u64, Refusal>
+    ensures { FirstHolders n answers.now seen.old (told_count result) seen.new }
 {
     let need = occ_packed_bytes(n) as usize;
     if seen.len() < need {
-        return Held {
-            no: NO_ROOM,
-            count: 0,
-        };
+        return Err(Refusal::NoRoom);
     }
-    let count = hold_part(n, answers, &mut seen[..need]);
-    Held {
-        no: ACCEPTED,
-        count,
-    }
+    Ok(hold_part(n, answers, &mut seen[..need]))
 }

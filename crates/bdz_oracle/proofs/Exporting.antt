@@ -9,14 +9,13 @@ use borrow.Author.Tests.{ltb-false, eqb-true, not-false}
 use Rattle.bdz_base.specs.Buffer.{over}
 use Rattle.bdz_base.specs.Refusal.{refuse}
 use Rattle.bdz_base.proofs.Buffers.{length_tab}
-use Rattle.bdz_table.specs.Build.{assigned_early, compact_early, assigned_table, compact_table, compact_occupancy, refused_build, lengths_of, BuiltAssigned, BuiltCompact}
-use Rattle.bdz_table.specs.declared.index.Built.{Built}
+use Rattle.bdz_table.specs.Build.{assigned_early, compact_early, assigned_table, compact_table, compact_occupancy, lengths_of, BuiltAssigned, BuiltCompact}
+use Rattle.bdz_table.specs.Told.{Built, refused_build}
 use Rattle.bdz_table.specs.declared.needs.Lengths.{Lengths}
 use Rattle.bdz_table.specs.declared.pairs.Pair.{Pair}
 use Rattle.bdz_table.proofs.Begun.{refuse_none}
 use Rattle.bdz_oracle.specs.Keys.{key_count, key_at}
-use Rattle.bdz_oracle.specs.Building.{keys_in, value_count, value_at, values_in, assigned_no, compact_no, ReadAssigned, ReadCompact, settled, told_built, AssignedTold, ToldAssigned, CompactTold, ToldCompact}
-use Rattle.bdz_oracle.specs.declared.building.Read.{Read}
+use Rattle.bdz_oracle.specs.Building.{Read, keys_in, value_count, value_at, values_in, assigned_no, compact_no, ReadAssigned, ReadCompact, settled, told_built, AssignedTold, ToldAssigned, CompactTold, ToldCompact}
 use Rattle.bdz_oracle.proofs.Telling.{read_part}
 
 -- ---- what is read has room

@@ -3,3 +3,4 @@ mod Exporting
 pub mod OneAnswer
 pub mod OneTold
 mod Telling
+pub mod ToldLaws

@@ -5,6 +5,7 @@ use mathlib.Core.List.{List, [], ◌∷◌}
 use Prim.Native.Nat.{ℕ, ◌+◌, ◌-◌, ◌*◌, ◌≤◌, min}
 use native.Mathlib.Nat.{add-zero}
 use native.Mathlib.Omega.{arith}
+use mir.Val.{bool_byte}
 use lib.Dec.{eqb, ltb}
 use lib.ListN.{length, set, take, drop}
 use lib.Seq.{take_at}
@@ -17,14 +18,13 @@ use Rattle.bdz_base.proofs.Digits.{bits_part}
 use Rattle.bdz_table.specs.Lookup.{lookup_no, LookedUp}
 use Rattle.bdz_table.specs.declared.index.Index.{Index}
 use Rattle.bdz_table.proofs.Begun.{refuse_none}
-use Rattle.bdz_image.specs.Feeding.{lists_pages, start_no, order_of, pages_of, fresh_slots, feed_of, Opened}
+use Rattle.bdz_image.specs.Feeding.{Feed, lists_pages, start_no, order_of, pages_of, fresh_slots, feed_of, Opened}
 use Rattle.bdz_image.specs.Pages.{padded}
-use Rattle.bdz_image.specs.declared.feed.Feed.{Feed}
 use Rattle.bdz_oracle.specs.Keys.{key_count, key_at}
 use Rattle.bdz_oracle.specs.Building.{value_at, keys_in}
+use Rattle.bdz_oracle.specs.Imaging.{one_if}
 use Rattle.bdz_oracle.specs.Feeding.{started_no, told_feed, ToldStart}
-use Rattle.bdz_list.specs.List.{ReadList}
-use Rattle.bdz_list.specs.declared.list.Listed.{Listed}
+use Rattle.bdz_list.specs.List.{Listed, ReadList}
 use Rattle.bdz_oracle.specs.Listing.{lacks_told, told_listed, ToldList}
 use Rattle.bdz_oracle.specs.Looking.{look_no, ToldLookup}
 
@@ -61,6 +61,11 @@ pub two : (old : List ℕ) {a b : ℕ} → 2 ≤ length old → set (set old 0 a
 two [] h = absurd (omega arith)
 two (x ∷ []) h = absurd (omega arith)
 two (x ∷ y ∷ old) h = refl
+
+-- a truth as a number
+pub byte_if : (b : Bool) → bool_byte b ≡ one_if b
+byte_if true = refl
+byte_if false = refl
 
 -- the three of a list
 pub three : (old : List ℕ) {a b c : ℕ} → 3 ≤ length old → set (set (set old 0 a) 1 b) 2 c ≡ over (a ∷ b ∷ c ∷ []) old

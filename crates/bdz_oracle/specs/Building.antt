@@ -1,16 +1,16 @@
 -- Keys and values that come as bytes, and the builds told in numbers: what is answered, and what each lent buffer then holds.
 -- Assumes nothing.
-use Rattle.std.specs.Prelude.{◌≡◌, cond, List, [], ◌∷◌, ℕ, ◌*◌, ◌/◌, eqb, ltb, length}
+use Rattle.std.specs.Prelude.{◌≡◌, cond, List, [], ◌∷◌, ℕ, ◌*◌, ◌/◌, eqb, ltb, length, Result, Ok, Err}
 use Rattle.bdz_base.specs.Buffer.{tab, over, written}
 use Rattle.bdz_base.specs.Pack.{bits_at}
-use Rattle.bdz_base.specs.Refusal.{refuse}
-use Rattle.bdz_table.specs.Build.{assigned_early, compact_early, refused_build, lengths_of, AssignedFrom, CompactFrom}
+use Rattle.bdz_base.specs.Refusal.{number, refuse}
+use Rattle.bdz_base.specs.declared.refusal.Refusal.{Refusal}
+use Rattle.bdz_table.specs.Build.{assigned_early, compact_early, lengths_of, AssignedFrom, CompactFrom}
+use Rattle.bdz_table.specs.Told.{Built, refused_build}
 use Rattle.bdz_table.specs.declared.index.Index.{Index}
-use Rattle.bdz_table.specs.declared.index.Built.{Built}
 use Rattle.bdz_table.specs.declared.needs.Lengths.{Lengths}
 use Rattle.bdz_table.specs.declared.pairs.Pair.{Pair}
 use Rattle.bdz_oracle.specs.Keys.{key_count, key_at}
-use Rattle.bdz_oracle.specs.declared.building.Read.{Read}
 
 -- ---- what comes as bytes
 
@@ -65,6 +65,15 @@ assigned_no keys values modulus key_room value_room lent =
 
 unfoldable pub compact_no : ℕ → ℕ → Lengths → ℕ
 compact_no keys key_room lent = refuse 14 (ltb key_room keys) (compact_early keys lent)
+
+-- what is told of it: the number, and how many keys were read, none of a refusal
+pub record Read : Type 0 where
+  pub no : ℕ
+  pub count : ℕ
+
+abbrev pub told_read : Result ℕ Refusal → Read
+told_read (Ok count) = record { no = 0; count = count }
+told_read (Err refusal) = record { no = number refusal; count = 0 }
 
 -- the keys are read where all that is accepted
 abbrev pub read_of : ℕ → ℕ → Read

@@ -3,11 +3,10 @@
 use Rattle.std.specs.Prelude.{◌≡◌, cond, List, [], ◌∷◌, ℕ, ◌*◌, ltb, length}
 use Rattle.bdz_base.specs.Buffer.{over, written}
 use Rattle.bdz_base.specs.Refusal.{refuse}
-use Rattle.bdz_table.specs.declared.index.Answer.{Answer}
+use Rattle.bdz_table.specs.Told.{Answer}
 use Rattle.bdz_table.specs.declared.index.Index.{Index}
-use Rattle.bdz_image.specs.Feeding.{start_no, order_of, pages_of, fresh_slots, begun, feed_of}
+use Rattle.bdz_image.specs.Feeding.{Feed, start_no, order_of, pages_of, fresh_slots, begun, feed_of}
 use Rattle.bdz_image.specs.Pages.{padded}
-use Rattle.bdz_image.specs.declared.feed.Feed.{Feed}
 use Rattle.bdz_oracle.specs.Building.{keys_in, Told}
 use Rattle.bdz_oracle.specs.Keys.{kind_of, key_count}
 

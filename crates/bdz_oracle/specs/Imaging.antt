@@ -1,9 +1,8 @@
 -- Opened images and audits, told in numbers. Assumes nothing.
 use Rattle.std.specs.Prelude.{Bool, cond, List, [], ◌∷◌, ℕ}
 use Rattle.bdz_base.specs.declared.verts.Kind.TheVariants.{Compact}
-use Rattle.bdz_table.specs.declared.index.Built.{Built}
-use Rattle.bdz_image.specs.Audit.{audit_of}
-use Rattle.bdz_image.specs.declared.audit.Audited.{Audited}
+use Rattle.bdz_table.specs.Told.{Built}
+use Rattle.bdz_image.specs.Audit.{Audited, audit_of}
 use Rattle.bdz_oracle.specs.Building.{fields_of, Told}
 
 -- an index, or the zeros of a refusal

@@ -4,8 +4,7 @@ use Rattle.bdz_base.specs.Buffer.{tab, over, written}
 use Rattle.bdz_base.specs.Refusal.{refuse}
 use Rattle.bdz_base.specs.declared.verts.Kind.{Kind}
 use Rattle.bdz_base.specs.declared.verts.Kind.TheVariants.{Assigned, Compact}
-use Rattle.bdz_list.specs.List.{list_no, list_kind, list_count, list_key, list_value, value_count, listed_of}
-use Rattle.bdz_list.specs.declared.list.Listed.{Listed}
+use Rattle.bdz_list.specs.List.{Listed, list_no, list_kind, list_count, list_key, list_value, value_count, listed_of}
 
 -- a number as a kind's, the other way round: assigned is 0
 abbrev pub kind_number : Kind → ℕ

@@ -1,33 +1,42 @@
 // The builds, exported.
 ghost use Rattle.std.specs.Prelude.{◌≡◌, ◌≤◌, length};
 ghost use Rattle.bdz_base.specs.Buffer.{over};
-ghost use Rattle.bdz_oracle.specs.Building.{value_count, fields_of, lengths_for, assigned_no, compact_no, ReadAssigned, ReadCompact, settled, told_built, ToldAssigned, ToldCompact};
+ghost use Rattle.bdz_base.specs.Refusal.{number_of};
+ghost use Rattle.bdz_table.specs.Told.{told_index};
+ghost use Rattle.bdz_oracle.specs.Building.{value_count, fields_of, lengths_for, assigned_no, compact_no, told_read, ReadAssigned, ReadCompact, settled, told_built, ToldAssigned, ToldCompact};
 ghost use Rattle.bdz_oracle.specs.Keys.{key_count};
 
-use super::reading::{read_keys, read_values, room_no};
-use bdz_base::refusal::ACCEPTED;
+use super::reading::{number_of, read_keys, read_values, room_no};
+use bdz_base::refusal::Refusal;
+use bdz_base::verts::Kind;
 use bdz_table::build::{build_assigned, build_compact};
-use bdz_table::index::{Built, Index, refused};
+use bdz_table::index::Index;
 use bdz_table::needs::{Lengths, early_assigned, early_compact};
 use bdz_table::pairs::Pair;
 
-// What comes before a build: the number of its early checks, and how many keys were read, none of a refusal.
-#[derive(Clone, Copy)]
-pub(crate) struct Read {
-    pub(crate) no: u32,
-    pub(crate) count: usize,
-}
+// "with every other field zero"
+const NO_INDEX: Index = Index {
+    kind: Kind::Assigned,
+    n: 0,
+    m: 0,
+    seed: 0,
+    modulus: 0,
+    width: 0,
+};
 
-// The numbers of an index, one word each.
-pub(crate) fn tell(index: Index, answer: &mut [u64])
+// The numbers of an index, one word each; zeros of a refusal, whose number is answered.
+pub(crate) fn tell(opened: Result<Index, Refusal>, answer: &mut [u64]) -> u32
     requires { 5 ≤ length answer.old }
-    ensures { answer.new ≡ over (fields_of index) answer.old }
+    ensures number { result ≡ (told_index opened).no }
+    ensures words { answer.new ≡ over (fields_of (told_index opened).index) answer.old }
 {
+    let index = opened.unwrap_or(NO_INDEX);
     answer[0] = index.n as u64;
     answer[1] = index.m as u64;
     answer[2] = index.seed;
     answer[3] = index.modulus as u64;
     answer[4] = index.width as u64;
+    number_of(opened)
 }
 
 // The early checks of an assigned build, and where they are passed its keys and values, read into their rooms.
@@ -44,8 +53,8 @@ fn read_assigned(
     seen: usize,
     key_room: &mut [u64],
     value_room: &mut [u32],
-) -> Read
-    ensures { ReadAssigned (assigned_no (key_count keys.now) (value_count values.now) modulus (length key_room.old) (length value_room.old) (lengths_for table degrees xors queue order marks 0 seen)) keys.now values.now key_room.old value_room.old result key_room.new value_room.new }
+) -> Result<usize, Refusal>
+    ensures { ReadAssigned (assigned_no (key_count keys.now) (value_count values.now) modulus (length key_room.old) (length value_room.old) (lengths_for table degrees xors queue order marks 0 seen)) keys.now values.now key_room.old value_room.old (told_read result) key_room.new value_room.new }
 {
     let count = keys.len() / 8;
     let given = values.len() / 4;
@@ -61,16 +70,10 @@ fn read_assigned(
     };
     let early = early_assigned(count, given, modulus, lent);
     let judged = room_no(value_room.len(), given, early);
-    let no = room_no(key_room.len(), count, judged);
-    if no != ACCEPTED {
-        return Read { no, count: 0 };
-    }
+    room_no(key_room.len(), count, judged)?;
     read_keys(keys, count, key_room);
     read_values(values, given, value_room);
-    Read {
-        no: ACCEPTED,
-        count,
-    }
+    Ok(count)
 }
 
 // The same of a compact build.
@@ -84,8 +87,8 @@ fn read_compact(
     marks: usize,
     occupancy: usize,
     key_room: &mut [u64],
-) -> Read
-    ensures { ReadCompact (compact_no (key_count keys.now) (length key_room.old) (lengths_for table degrees xors queue order marks occupancy 0)) keys.now key_room.old result key_room.new }
+) -> Result<usize, Refusal>
+    ensures { ReadCompact (compact_no (key_count keys.now) (length key_room.old) (lengths_for table degrees xors queue order marks occupancy 0)) keys.now key_room.old (told_read result) key_room.new }
 {
     let count = keys.len() / 8;
     let lent = Lengths {
@@ -99,35 +102,26 @@ fn read_compact(
         seen: 0,
     };
     let early = early_compact(count, lent);
-    let no = room_no(key_room.len(), count, early);
-    if no != ACCEPTED {
-        return Read { no, count: 0 };
-    }
+    room_no(key_room.len(), count, early)?;
     read_keys(keys, count, key_room);
-    Read {
-        no: ACCEPTED,
-        count,
-    }
+    Ok(count)
 }
 
 // The refusal of what came before a build, or what the build came to.
-fn settle(no: u32, built: Built) -> Built
-    ensures { result ≡ settled «no» built }
+fn settle(read: Result<usize, Refusal>, built: Result<Index, Refusal>) -> Result<Index, Refusal>
+    ensures { told_index result ≡ settled (number_of read) (told_index built) }
 {
-    if no != ACCEPTED {
-        return refused(no);
-    }
+    read?;
     built
 }
 
 // The number of a build and those of its index, one word each.
-fn tell_built(no: u32, built: Built, answer: &mut [u64; 6])
-    ensures { answer.new ≡ told_built (settled «no» built) }
+fn tell_built(built: Result<Index, Refusal>, answer: &mut [u64; 6])
+    ensures { answer.new ≡ told_built (told_index built) }
 {
-    let told = settle(no, built);
-    let index = told.index;
+    let index = built.unwrap_or(NO_INDEX);
     *answer = [
-        told.no as u64,
+        number_of(built) as u64,
         index.n as u64,
         index.m as u64,
         index.seed,
@@ -170,9 +164,10 @@ pub extern "C" fn bdz_build_assigned(
         key_room,
         value_room,
     );
+    let count = read.unwrap_or(0);
     let built = build_assigned(
-        &key_room[..read.count],
-        &value_room[..read.count],
+        &key_room[..count],
+        &value_room[..count],
         modulus,
         table,
         degrees,
@@ -182,7 +177,7 @@ pub extern "C" fn bdz_build_assigned(
         marks,
         seen,
     );
-    tell_built(read.no, built, answer);
+    tell_built(settle(read, built), answer);
 }
 
 // The compact build, likewise.
@@ -212,8 +207,9 @@ pub extern "C" fn bdz_build_compact(
         occupancy.len(),
         key_room,
     );
+    let count = read.unwrap_or(0);
     let built = build_compact(
-        &key_room[..read.count],
+        &key_room[..count],
         table,
         occupancy,
         degrees,
@@ -222,5 +218,5 @@ pub extern "C" fn bdz_build_compact(
         order,
         marks,
     );
-    tell_built(read.no, built, answer);
+    tell_built(settle(read, built), answer);
 }

@@ -4,11 +4,14 @@ ghost use Rattle.bdz_image.specs.Feeding.{PageFed, asked_of};
 ghost use Rattle.bdz_image.specs.Page.{page_length};
 ghost use Rattle.bdz_oracle.specs.Feeding.{record_of, ToldStart, ToldAnswer};
 
-use super::reading::{kind_of, read_keys, room_no};
-use bdz_base::refusal::{ACCEPTED, NO_ROOM};
-use bdz_image::feed::{feed_ask, feed_page, feed_start, start_no};
+use super::reading::{kind_of, number_of, read_keys, room_no};
+use bdz_base::refusal::Refusal;
+use bdz_image::feed::{Counts, feed_ask, feed_page, feed_start, start_no};
 use bdz_image::page::g_page_need;
 use bdz_table::index::Index;
+
+// "with every other field zero"
+const NO_COUNTS: Counts = Counts { keys: 0, pages: 0 };
 
 // An index from all its numbers.
 pub(crate) fn record_of(compact: u32, n: u32, m: u32, seed: u64, modulus: u32, width: u32) -> Index
@@ -53,7 +56,7 @@ pub extern "C" fn bdz_feed_start(
     ensures { ToldStart (record_of compact n m seed modulus width) keys.now (length occ.now) key_room.old order.old slots.old pages.old told.old result key_room.new order.new slots.new pages.new told.new }
 {
     if told.len() < 2 {
-        return NO_ROOM;
+        return u32::from(Refusal::NoRoom);
     }
     let count = keys.len() / 8;
     let index = record_of(compact, n, m, seed, modulus, width);
@@ -65,17 +68,17 @@ pub extern "C" fn bdz_feed_start(
         slots.len(),
         pages.len(),
     );
-    let no = room_no(key_room.len(), count, judged);
-    if no != ACCEPTED {
+    if let Err(refusal) = room_no(key_room.len(), count, judged) {
         told[0] = 0;
         told[1] = 0;
-        return no;
+        return u32::from(refusal);
     }
     read_keys(keys, count, key_room);
     let feed = feed_start(index, &key_room[..count], occ, order, slots, pages);
-    told[0] = feed.keys;
-    told[1] = feed.pages;
-    feed.no
+    let counts = feed.unwrap_or(NO_COUNTS);
+    told[0] = counts.keys;
+    told[1] = counts.pages;
+    number_of(feed)
 }
 
 #[unsafe(no_mangle)]
@@ -95,7 +98,7 @@ pub extern "C" fn bdz_feed_page(
     ensures { PageFed (record_of compact n m seed modulus width) keys page bytes.now order.now slots.old result slots.new }
 {
     let index = record_of(compact, n, m, seed, modulus, width);
-    feed_page(index, keys, page, bytes, order, slots)
+    number_of(feed_page(index, keys, page, bytes, order, slots))
 }
 
 // The answer at a position, told in one word. 14 where it has no room, and then it stays as it is.
@@ -118,10 +121,10 @@ pub extern "C" fn bdz_feed_ask(
     ensures { ToldAnswer (asked_of (record_of compact n m seed modulus width) keys lent.now position occ.now supers.now slots.now) told.old result told.new }
 {
     if told.len() < 1 {
-        return NO_ROOM;
+        return u32::from(Refusal::NoRoom);
     }
     let index = record_of(compact, n, m, seed, modulus, width);
     let asked = feed_ask(index, keys, lent, position, occ, supers, slots);
-    told[0] = asked.answer;
-    asked.no
+    told[0] = asked.unwrap_or(0);
+    number_of(asked)
 }

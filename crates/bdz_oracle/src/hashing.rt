@@ -6,7 +6,7 @@ ghost use Rattle.bdz_base.specs.Sizes.{assigned_size, compact_size, table_bytes,
 ghost use Rattle.bdz_base.specs.Width.{width_of};
 ghost use Rattle.bdz_oracle.specs.Keys.{kind_of, vertex_at, Hashed};
 
-use bdz_base::refusal::{ACCEPTED, NO_ROOM};
+use bdz_base::refusal::Refusal;
 use bdz_base::verts::{Kind, hash_verts};
 use bdz_base::words::le64;
 
@@ -88,15 +88,13 @@ fn hash_all(keys: &[u8], n: usize, seed: u64, m: u32, kind: Kind, out: &mut [u32
     requires { (n ≡ length keys.now / 8) × (3 * n ≤ length out.old) }
     ensures { out.new ≡ over (tab (vertex_at kind keys.now seed m) (3 * n)) out.old }
 {
-    let mut i: usize = 0;
-    while i < n {
+    for i in 0..n {
         let at = i * 8;
         let end = at + 8;
         let v = hash_verts(le64(&keys[at..end], 0), seed, m, kind);
         out[3 * i] = v.a;
         out[3 * i + 1] = v.b;
         out[3 * i + 2] = v.c;
-        i += 1;
     }
 }
 
@@ -113,13 +111,13 @@ pub extern "C" fn bdz_hash_verts(
 {
     let n = keys.len() / 8;
     if out.len() < 3 * n {
-        return NO_ROOM;
+        return u32::from(Refusal::NoRoom);
     }
     // a kind that is known at the call is one routine in the loop
     if compact == 0 {
         hash_all(keys, n, seed, m, Kind::Assigned, out);
-        return ACCEPTED;
+        return 0;
     }
     hash_all(keys, n, seed, m, Kind::Compact, out);
-    ACCEPTED
+    0
 }

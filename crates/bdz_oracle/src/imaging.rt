@@ -6,47 +6,37 @@ ghost use Rattle.bdz_image.specs.Parts.{body_off, occ_off, end_off};
 ghost use Rattle.bdz_image.specs.Write.{Wrote};
 ghost use Rattle.bdz_oracle.specs.Feeding.{record_of};
 ghost use Rattle.bdz_oracle.specs.Looking.{index_of};
-ghost use Rattle.bdz_oracle.specs.Imaging.{one_if, ToldIndex, ToldAudit};
+ghost use Rattle.bdz_oracle.specs.Imaging.{ToldIndex, ToldAudit};
 
 use super::building::tell;
 use super::feeding::record_of;
-use super::reading::kind_of;
-use bdz_base::refusal::NO_ROOM;
-use bdz_base::verts::Kind;
-use bdz_image::audit::audit;
+use super::reading::number_of;
+use bdz_base::refusal::Refusal;
+use bdz_image::audit::{Finding, audit};
 use bdz_image::open::{open_compact, open_packed};
 use bdz_image::parts::{body_off, end_off, occ_off};
 use bdz_image::size::{image_len, trailer_off};
 use bdz_image::write::write_image;
-use bdz_table::index::Index;
+
+// "with every other field zero"
+const NOTHING_FOUND: Finding = Finding {
+    ones: 0,
+    full: false,
+};
 
 // The bytes of the image of an index, of the assigned kind for 0 and of the compact kind for any other number.
 #[unsafe(no_mangle)]
 pub extern "C" fn bdz_image_len(compact: u32, n: u32, m: u32, modulus: u32) -> u64
     ensures { result ≡ image_len (index_of compact n m 0 modulus) }
 {
-    image_len(Index {
-        kind: kind_of(compact),
-        n,
-        m,
-        seed: 0,
-        modulus,
-        width: 0,
-    })
+    image_len(record_of(compact, n, m, 0, modulus, 0))
 }
 
 #[unsafe(no_mangle)]
 pub extern "C" fn bdz_trailer_off(n: u32, m: u32) -> u64
     ensures { result ≡ trailer_off (index_of 1 n m 0 0) }
 {
-    trailer_off(Index {
-        kind: Kind::Compact,
-        n,
-        m,
-        seed: 0,
-        modulus: 0,
-        width: 0,
-    })
+    trailer_off(record_of(1, n, m, 0, 0, 0))
 }
 
 // Where the parts of an image stand, by the width of its record: the table's start, its end, and the image's end.
@@ -84,15 +74,8 @@ pub extern "C" fn bdz_write_image(
 ) -> u32
     ensures { Wrote (index_of compact n m seed modulus) table.now occ.now image.old result image.new }
 {
-    let index = Index {
-        kind: kind_of(compact),
-        n,
-        m,
-        seed,
-        modulus,
-        width: 0,
-    };
-    write_image(index, table, occ, image)
+    let index = record_of(compact, n, m, seed, modulus, 0);
+    number_of(write_image(index, table, occ, image))
 }
 
 // Opens a BDZ2 image. 14 where the answer has no five words, and then it stays as it is.
@@ -101,12 +84,9 @@ pub extern "C" fn bdz_open_packed(first: &[u8], len: u64, answer: &mut [u64]) ->
     ensures { ToldIndex (open_packed first.now len) answer.old result answer.new }
 {
     if answer.len() < 5 {
-        return NO_ROOM;
+        return u32::from(Refusal::NoRoom);
     }
-    let opened = open_packed(first, len);
-    let no = opened.no;
-    tell(opened.index, answer);
-    no
+    tell(open_packed(first, len), answer)
 }
 
 // Opens a BDZ3 image, likewise.
@@ -115,21 +95,9 @@ pub extern "C" fn bdz_open_compact(first: &[u8], len: u64, answer: &mut [u64]) -
     ensures { ToldIndex (open_compact first.now len) answer.old result answer.new }
 {
     if answer.len() < 5 {
-        return NO_ROOM;
+        return u32::from(Refusal::NoRoom);
     }
-    let opened = open_compact(first, len);
-    let no = opened.no;
-    tell(opened.index, answer);
-    no
-}
-
-fn one_if(b: bool) -> u64
-    ensures { result ≡ one_if b }
-{
-    if b {
-        return 1;
-    }
-    0
+    tell(open_compact(first, len), answer)
 }
 
 // The audit of n, m and an occupancy: the ones, and 1 where they are n. 14 where the answer has no two words, and then it stays as it is.
@@ -138,18 +106,12 @@ pub extern "C" fn bdz_audit(n: u32, m: u32, occ: &[u8], answer: &mut [u64]) -> u
     ensures { ToldAudit n m occ.now answer.old result answer.new }
 {
     if answer.len() < 2 {
-        return NO_ROOM;
+        return u32::from(Refusal::NoRoom);
     }
-    let index = Index {
-        kind: Kind::Compact,
-        n,
-        m,
-        seed: 0,
-        modulus: n,
-        width: 2,
-    };
+    let index = record_of(1, n, m, 0, n, 2);
     let audited = audit(index, occ);
-    answer[0] = audited.ones;
-    answer[1] = one_if(audited.full);
-    audited.no
+    let found = audited.unwrap_or(NOTHING_FOUND);
+    answer[0] = found.ones;
+    answer[1] = u64::from(found.full);
+    number_of(audited)
 }

@@ -2,9 +2,17 @@
 ghost use Rattle.std.specs.Prelude.{◌≡◌};
 ghost use Rattle.bdz_oracle.specs.Listing.{kind_number, ToldList};
 
-use bdz_base::refusal::NO_ROOM;
+use super::reading::number_of;
+use bdz_base::refusal::Refusal;
 use bdz_base::verts::Kind;
-use bdz_list::list::read_list;
+use bdz_list::list::{KeyList, read_list};
+
+// "with every other field zero"
+const NO_LIST: KeyList = KeyList {
+    kind: Kind::Assigned,
+    modulus: 0,
+    count: 0,
+};
 
 // The assigned kind is 0.
 fn kind_number(kind: Kind) -> u64
@@ -27,12 +35,12 @@ pub extern "C" fn bdz_read_list(
     ensures { ToldList bytes.now keys.old values.old told.old result keys.new values.new told.new }
 {
     if told.len() < 3 {
-        return NO_ROOM;
+        return u32::from(Refusal::NoRoom);
     }
-    let listed = read_list(bytes, keys, values);
-    let kind = listed.kind;
-    told[0] = kind_number(kind);
-    told[1] = listed.modulus as u64;
-    told[2] = listed.count as u64;
-    listed.no
+    let read = read_list(bytes, keys, values);
+    let list = read.unwrap_or(NO_LIST);
+    told[0] = kind_number(list.kind);
+    told[1] = list.modulus as u64;
+    told[2] = list.count as u64;
+    number_of(read)
 }

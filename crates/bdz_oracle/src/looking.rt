@@ -4,9 +4,8 @@ ghost use Rattle.bdz_table.specs.Lookup.{LookedUp};
 ghost use Rattle.bdz_table.specs.Rank.{ones_between, SuperCounted, ranked_of};
 ghost use Rattle.bdz_oracle.specs.Looking.{index_of, ToldLookup};
 
-use super::reading::{kind_of, read_keys, room_no};
-use bdz_base::refusal::ACCEPTED;
-use bdz_table::index::Index;
+use super::feeding::record_of;
+use super::reading::{number_of, read_keys, room_no};
 use bdz_table::lookup::{index_batch, lookup_no};
 use bdz_table::view::rank1;
 
@@ -21,7 +20,7 @@ pub extern "C" fn bdz_popcount_bits(occ: &[u8], lo: u64, hi: u64) -> u32
 pub extern "C" fn bdz_supers_from_occ_bytes(m: u32, occ: &[u8], supers: &mut [u32]) -> u32
     ensures { SuperCounted m occ.now supers.old result supers.new }
 {
-    bdz_table::rank::supers_from_occ_bytes(m, occ, supers)
+    number_of(bdz_table::rank::supers_from_occ_bytes(m, occ, supers))
 }
 
 // The rank of v, 0 where it is refused.
@@ -29,7 +28,7 @@ pub extern "C" fn bdz_supers_from_occ_bytes(m: u32, occ: &[u8], supers: &mut [u3
 pub extern "C" fn bdz_rank1(occ: &[u8], supers: &[u32], m: u32, v: u32) -> u32
     ensures { result ≡ (ranked_of m occ.now supers.now v).answer }
 {
-    rank1(occ, supers, m, v).answer
+    rank1(occ, supers, m, v).unwrap_or(0)
 }
 
 // The number of its refusal.
@@ -37,7 +36,7 @@ pub extern "C" fn bdz_rank1(occ: &[u8], supers: &[u32], m: u32, v: u32) -> u32
 pub extern "C" fn bdz_rank1_no(occ: &[u8], supers: &[u32], m: u32, v: u32) -> u32
     ensures { result ≡ (ranked_of m occ.now supers.now v).no }
 {
-    rank1(occ, supers, m, v).no
+    number_of(rank1(occ, supers, m, v))
 }
 
 // The answer for each key, in an index of the assigned kind for 0 and of the compact kind for any other number. 14 where the
@@ -59,14 +58,7 @@ pub extern "C" fn bdz_index_batch(
     ensures { ToldLookup (index_of compact n m seed modulus) keys.now table.now occ.now supers.now key_room.old out.old result key_room.new out.new }
 {
     let count = keys.len() / 8;
-    let index = Index {
-        kind: kind_of(compact),
-        n,
-        m,
-        seed,
-        modulus,
-        width: 0,
-    };
+    let index = record_of(compact, n, m, seed, modulus, 0);
     let judged = lookup_no(
         index,
         count,
@@ -75,12 +67,11 @@ pub extern "C" fn bdz_index_batch(
         supers.len(),
         out.len(),
     );
-    let no = room_no(key_room.len(), count, judged);
-    if no != ACCEPTED {
-        return no;
+    if let Err(refusal) = room_no(key_room.len(), count, judged) {
+        return u32::from(refusal);
     }
     read_keys(keys, count, key_room);
-    index_batch(index, &key_room[..count], table, occ, supers, out)
+    number_of(index_batch(index, &key_room[..count], table, occ, supers, out))
 }
 
 // The same where the keys are words already.
@@ -99,13 +90,6 @@ pub extern "C" fn bdz_index_words(
 ) -> u32
     ensures { LookedUp (index_of compact n m seed modulus) keys.now table.now occ.now supers.now out.old result out.new }
 {
-    let index = Index {
-        kind: kind_of(compact),
-        n,
-        m,
-        seed,
-        modulus,
-        width: 0,
-    };
-    index_batch(index, keys, table, occ, supers, out)
+    let index = record_of(compact, n, m, seed, modulus, 0);
+    number_of(index_batch(index, keys, table, occ, supers, out))
 }

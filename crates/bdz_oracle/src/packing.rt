@@ -3,13 +3,14 @@ ghost use Rattle.std.specs.Prelude.{◌≡◌, ◌^◌, min, length};
 ghost use Rattle.bdz_base.specs.Buffer.{tab, over};
 ghost use Rattle.bdz_base.specs.Pack.{bits_at, word_at, Packed};
 
+use super::reading::number_of;
 use bdz_base::pack::unpack_g_at;
 
 #[unsafe(no_mangle)]
 pub extern "C" fn bdz_pack_g(g: &[u32], width: u32, body: &mut [u8]) -> u32
     ensures { Packed width g.now body.old result body.new }
 {
-    bdz_base::pack::pack_g(g, width, body)
+    number_of(bdz_base::pack::pack_g(g, width, body))
 }
 
 #[unsafe(no_mangle)]
@@ -30,11 +31,7 @@ pub extern "C" fn bdz_unpack_g_at(body: &[u8], v: u32, width: u32) -> u32
 fn reached(len: usize) -> usize
     ensures { result ≡ min len (2 ^ 32) }
 {
-    if len < 0x1_0000_0000 {
-        len
-    } else {
-        0x1_0000_0000
-    }
+    len.min(0x1_0000_0000)
 }
 
 // The words from vertex 0 on, as many as out has room for.
@@ -43,9 +40,7 @@ pub extern "C" fn bdz_unpack_g(body: &[u8], width: u32, out: &mut [u32])
     ensures { out.new ≡ over (tab (word_at width body.now) (min (length out.old) (2 ^ 32))) out.old }
 {
     let n = reached(out.len());
-    let mut v: usize = 0;
-    while v < n {
+    for v in 0..n {
         out[v] = unpack_g_at(body, v as u32, width);
-        v += 1;
     }
 }

@@ -1,9 +1,9 @@
 -- One vertex after another: the tables after the first j vertices of a key. Assumes nothing.
-use Rattle.std.proofs.Common.{◌≡◌, ℕ, zero, suc, ◌+◌, ◌<◌, ◌≤◌, Bool, true, false, ◌||◌, eqb, List, [], ◌∷◌, length, get_or, take, set, sym, refl, ap, ◌∙◌, ⊎_elim, le_of_suc-le-suc, not-suc-le-zero, add-zero, add-one, arith, length-set, take_all, get_or-set_other, take-suc, get_or-set_same, eqb-true}
+use Rattle.std.proofs.Common.{◌≡◌, ℕ, zero, suc, ◌+◌, ◌<◌, ◌≤◌, Bool, true, false, ◌||◌, eqb, List, [], ◌∷◌, length, get_or, take, set, sym, refl, ap, ◌∙◌, ⊎_elim, le_of_suc-le-suc, not-suc-le-zero, add-zero, add-one, arith, length-set, get_or-set_other, take-suc, get_or-set_same, eqb-true}
 use borrow.Author.Tests.{eqb-false}
 use lib.Bits.{bit_xor, xor_zero_r}
 use Rattle.bdz_table.specs.Graph.{has, Distinct, only_if}
-use Rattle.bdz_table.specs.Steps.{Places, Added, Full}
+use Rattle.bdz_table.specs.Steps.{Places, Full}
 use Rattle.bdz_table.proofs.Fold.{clash}
 use Rattle.bdz_table.proofs.Has.{known, has_head, has_other, has_tail, has_append}
 
@@ -56,13 +56,6 @@ partly_none us e ds xs =
     record { long = refl; longx = refl; upto = omega arith; degrees = λ v. sym (add-zero _); xors = λ v. sym (xor_zero_r _) }
 
 module _ (us : List ℕ) (e : ℕ) (ds xs ds' xs' : List ℕ) (j : ℕ) (p : Places us ds xs) (i : Partly us e ds xs ds' xs' j) where
-  pub partly_all : length us ≤ j → Added us e ds xs ds' xs'
-  partly_all l =
-      record {
-        degrees = λ v. i.degrees v ∙ ap (λ (t : List ℕ). get_or ds v 0 + only_if (has v t) 1) (take_all j us l);
-        xors = λ v. i.xors v ∙ ap (λ (t : List ℕ). bit_xor (get_or xs v 0) (only_if (has v t) e)) (take_all j us l);
-      }
-
   module _ (l : j < length us) where
     pub at_inside : get_or us j 0 < length ds'
     at_inside = omega (arith, p.inside (get_or us j 0) (has_get_d us j l), i.long)

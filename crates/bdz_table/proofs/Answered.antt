@@ -11,17 +11,17 @@ use Rattle.bdz_base.specs.declared.verts.Kind.{Kind}
 use Rattle.bdz_base.specs.declared.verts.Kind.TheVariants.{Assigned, Compact}
 use Rattle.bdz_base.proofs.Buffers.{length_tab}
 use Rattle.bdz_table.specs.Assign.{sum_at, looked}
-use Rattle.bdz_table.specs.Build.{vertices_for, assigned_early, compact_early, build_no, seed_for, index_for, refused_build, built_for, cuts_for, assigned_table, compact_table, compact_occupancy, lengths_of, BuiltAssigned, BuiltCompact}
+use Rattle.bdz_table.specs.Build.{vertices_for, assigned_early, compact_early, build_no, seed_for, index_for, built_for, cuts_for, assigned_table, compact_table, compact_occupancy, lengths_of, BuiltAssigned, BuiltCompact}
 use Rattle.bdz_table.specs.Graph.{has, only_if}
 use Rattle.bdz_table.specs.Keys.{graph_of}
 use Rattle.bdz_table.specs.Lookup.{room_no, lookup_no, sum_of, assigned_answer, picked_of, compact_from, compact_answer, many_answer, few_answer, answer_of, answers_of, LookedUp}
 use Rattle.bdz_table.specs.Peel.{ats_of}
 use Rattle.bdz_table.specs.Rank.{ones_below, super_at, super_counts, supers_no, SuperCounted, rank_with}
 use Rattle.bdz_table.specs.Values.{values_no}
-use Rattle.bdz_table.specs.declared.index.Built.{Built}
 use Rattle.bdz_table.specs.declared.index.Index.{Index}
 use Rattle.bdz_table.specs.declared.needs.Lengths.{Lengths}
 use Rattle.bdz_table.specs.declared.pairs.Pair.{Pair}
+use Rattle.bdz_table.specs.Told.{Built, refused_build}
 use Rattle.bdz_table.proofs.Begun.{assigned_passed, compact_passed, length_assigned, length_compact, length_occupied, empty_compact}
 use Rattle.bdz_table.proofs.Bits.{occupancy_front, tab_at}
 use Rattle.bdz_table.proofs.Counting.{graph_few}

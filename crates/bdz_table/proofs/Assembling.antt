@@ -1,8 +1,9 @@
 -- From a build up to its pairs, through the notes and the assigns, to the build's promise. Assumes nothing.
-use Rattle.std.proofs.Common.{◌≡◌, ℕ, zero, suc, ◌^◌, ◌<◌, ◌≤◌, Bool, true, false, cond, List, [], ◌∷◌, ◌++◌, length, get_or, take, drop, set, replicate, sym, refl, ap, ◌∙◌, ⊎_elim, arith, length-append, length-drop, length-set, take-append-drop, length-take, get_or-set_other, get_or-set_same, drop-set-lt}
+use Rattle.std.proofs.Common.{Result, ◌≡◌, ℕ, zero, suc, ◌^◌, ◌<◌, ◌≤◌, Bool, true, false, cond, List, [], ◌∷◌, ◌++◌, length, get_or, take, drop, set, replicate, sym, refl, ap, ◌∙◌, ⊎_elim, arith, length-append, length-drop, length-set, take-append-drop, length-take, get_or-set_other, get_or-set_same, drop-set-lt}
 use lib.ListN.{length-replicate, get_or-append}
 use Rattle.bdz_base.specs.Buffer.{over, written}
 use Rattle.bdz_base.specs.Sizes.{occupancy_bytes}
+use Rattle.bdz_base.specs.declared.refusal.Refusal.{Refusal}
 use Rattle.bdz_base.specs.declared.verts.Kind.{Kind}
 use Rattle.bdz_base.specs.declared.verts.Kind.TheVariants.{Assigned, Compact}
 use Rattle.bdz_table.specs.Assign.{assign, part_of}
@@ -10,14 +11,14 @@ use Rattle.bdz_table.specs.Build.{cuts_for, words_for, assigned_table, compact_t
 use Rattle.bdz_table.specs.Keys.{graph_of}
 use Rattle.bdz_table.specs.Occupancy.{occupancy_of}
 use Rattle.bdz_table.specs.Order.{pair_of, no_pair}
-use Rattle.bdz_table.specs.Pairs.{cut_of, cuts_in, Notes, noted, PairsReady, PairsAssigned, bits_of, PairsOccupied}
+use Rattle.bdz_table.specs.Pairs.{cut_of, cuts_in, Notes, noted, PairsReady, Follows, PairsAssigned, bits_of, Occupies, PairsOccupied}
 use Rattle.bdz_table.specs.Peel.{Cut, ats_of}
 use Rattle.bdz_table.specs.Steps.{cuts_of, Zeroed, ReadyTo, ReadyAssigned, ReadyCompact, Cleared}
 use Rattle.bdz_table.specs.declared.build.Ready.{Ready}
-use Rattle.bdz_table.specs.declared.index.Built.{Built}
 use Rattle.bdz_table.specs.declared.index.Index.{Index}
 use Rattle.bdz_table.specs.declared.index.Needs.{Needs}
 use Rattle.bdz_table.specs.declared.pairs.Pair.{Pair}
+use Rattle.bdz_table.specs.Told.{told_index}
 use Rattle.bdz_table.proofs.Begun.{length_words, length_occupied}
 use Rattle.bdz_table.proofs.Has.{lt_or_ge}
 use Rattle.bdz_table.proofs.NeedLaws.{vertices_more}
@@ -132,9 +133,9 @@ module _ (kind : Kind) (keys : List ℕ) (number : ℕ) (go : Bool) (index : Ind
     noted_cuts = ap (λ (o : List Pair). cuts_in o r.pairs) n₁ ∙ cuts_noted xs₁ q₁ r.pairs order notes_first.room r.pairs (omega arith)
 
     module _ (M : ℕ) (val : Cut → ℕ) where
-      pub pairs_ready : (0 < r.pairs → 0 < M) → (0 < r.pairs → M ≤ 2 ^ 30) → (0 < r.pairs → (i : ℕ) → i < length keys → val (cut_of (pair_of (get_or xs₁ (get_or q₁ i 0) 0) (get_or q₁ i 0))) < M)
-          → PairsReady r.pairs (length keys) r.m M val order₁ ms₁ table₁
-      pairs_ready some limit below =
+      pub pairs_ready : {comes : Pair → ℕ → Type 0} → Follows r.pairs comes val order₁ → (0 < r.pairs → 0 < M) → (0 < r.pairs → M ≤ 2 ^ 30) → (0 < r.pairs → (i : ℕ) → i < length keys → val (cut_of (pair_of (get_or xs₁ (get_or q₁ i 0) 0) (get_or q₁ i 0))) < M)
+          → PairsReady r.pairs (length keys) r.m M comes order₁ ms₁ table₁
+      pairs_ready follows some limit below =
           record {
             room = omega (arith, ap length n₁, length_noted xs₁ q₁ r.pairs order, notes_first.room);
             big = λ h. let w = ready.pending h in omega (arith, w.is, w.many, vertices_more kind (length keys) w.many);
@@ -145,10 +146,13 @@ module _ (kind : Kind) (keys : List ℕ) (number : ℕ) (go : Bool) (index : Ind
                 rw (w.marks, w.words.zeros) (marked_zero M r.m r.m (some h) (limit h) refl);
             edges = λ i l. let h : 0 < r.pairs = omega arith in rw (noted_pair i l) ((ready.pending h).left.edges i (omega (arith, (ready.pending h).all)));
             vertices = λ i l. let h : 0 < r.pairs = omega arith in rw (noted_pair i l) ((ready.pending h).left.vertices i (omega (arith, (ready.pending h).all)));
-            values = λ i l. let h : 0 < r.pairs = omega arith in rw (noted_pair i l) (below h i (omega (arith, (ready.pending h).all)));
+            values = λ i x l h.
+                let some : 0 < r.pairs = omega arith in
+                let its : x ≡ val (cut_of (pair_of (get_or xs₁ (get_or q₁ i 0) 0) (get_or q₁ i 0))) = follows i x l h ∙ ap (λ (p : Pair). val (cut_of p)) (noted_pair i l) in
+                omega (arith, its, below some i (omega (arith, (ready.pending some).all)));
           }
 
-      module _ {table₂ ms₂ : List ℕ} (w : PairsAssigned kind keys r.seed r.pairs r.m M val order₁ ms₁ table₁ ms₂ table₂) (words : 0 < r.pairs → new ≡ words_for kind keys M val) where
+      module _ {table₂ ms₂ : List ℕ} (w : PairsAssigned (graph_of kind keys r.seed r.m) r.pairs r.m M val order₁ ms₁ table₁ ms₂ table₂) (words : 0 < r.pairs → new ≡ words_for kind keys M val) where
         table_none : r.pairs ≡ 0 → table₂ ≡ written number new table
         unfolding cuts_in assign
         table_none none =
@@ -212,10 +216,10 @@ module _ (kind : Kind) (keys : List ℕ) (number : ℕ) (go : Bool) (index : Ind
               n₂ ∙ ⊎_elim (λ (h : r.order < 1). order_none (omega arith)) order_some (lt_or_ge r.order 1)
               ∙ ap (λ (rest : List Pair). replicate r.order no_pair ++ rest) order_behind
 
-          pub assembled : {order₂ : List Pair} → order₂ ≡ noted xs₃ q₃ r.order order₁ → {built : Built} → built ≡ r.built → BuiltTo number go index need new table ds xs q order ms built table₂ ds₃ xs₃ q₃ order₂ ms₃
+          pub assembled : {order₂ : List Pair} → order₂ ≡ noted xs₃ q₃ r.order order₁ → {built : Result Index Refusal} → built ≡ r.built → BuiltTo number go index need new table ds xs q order ms (told_index built) table₂ ds₃ xs₃ q₃ order₂ ms₃
           assembled n₂ b =
               record {
-                answer_is = b ∙ ready.answer_is;
+                answer_is = ap told_index b ∙ ready.answer_is;
                 table_is = table_made;
                 degrees_are = cleared_used go need.vertices ds ready.vertices_is (front_zero r.vertices ds ds₁ ready.degrees.behind c.degrees);
                 xors_are = cleared_used go need.vertices xs ready.vertices_is (front_zero r.vertices xs xs₁ ready.xors.behind c.xors);
@@ -234,12 +238,12 @@ module _ (keys values : List ℕ) (modulus : ℕ) (table ds xs q : List ℕ) (or
   assigned_notes = notes_first Assigned keys _ _ _ _ _ table ds xs q order ms r table₁ ds₁ xs₁ q₁ ms₁ a.to
 
   module _ {order₁ : List Pair} (n₁ : order₁ ≡ noted xs₁ q₁ r.pairs order) where
-    pub assigned_pairs : PairsReady r.pairs (length keys) r.m modulus (λ p. get_or values p.key 0) order₁ ms₁ table₁
-    assigned_pairs =
-        pairs_ready Assigned keys _ _ _ _ _ table ds xs q order ms r table₁ ds₁ xs₁ q₁ ms₁ a.to n₁ modulus valued
+    pub assigned_pairs : {comes : Pair → ℕ → Type 0} → Follows r.pairs comes (λ p. get_or values p.key 0) order₁ → PairsReady r.pairs (length keys) r.m modulus comes order₁ ms₁ table₁
+    assigned_pairs follows =
+        pairs_ready Assigned keys _ _ _ _ _ table ds xs q order ms r table₁ ds₁ xs₁ q₁ ms₁ a.to n₁ modulus valued follows
         (λ h. omega (arith, a.values_below h 0 (omega (arith, a.same h, (a.to.pending h).many)))) a.values_limit (λ h i l. a.values_below h _ (omega (arith, a.same h, (a.to.pending h).left.edges i l)))
 
-    module _ {table₂ ms₂ : List ℕ} (w : PairsAssigned Assigned keys r.seed r.pairs r.m modulus (λ p. get_or values p.key 0) order₁ ms₁ table₁ ms₂ table₂) where
+    module _ {table₂ ms₂ : List ℕ} (w : PairsAssigned (graph_of Assigned keys r.seed r.m) r.pairs r.m modulus (λ p. get_or values p.key 0) order₁ ms₁ table₁ ms₂ table₂) where
       assigned_words : 0 < r.pairs → assigned_table keys values modulus ≡ words_for Assigned keys modulus valued
       assigned_words h = many_assigned_table keys values modulus (a.to.pending h).many
 
@@ -250,7 +254,7 @@ module _ (keys values : List ℕ) (modulus : ℕ) (table ds xs q : List ℕ) (or
         pub assigned_again : Notes xs₃ q₃ order₁ r.order
         assigned_again = notes_again Assigned keys _ _ _ _ _ table ds xs q order ms r table₁ ds₁ xs₁ q₁ ms₁ a.to n₁ modulus valued w assigned_words c
 
-        pub assigned_built : {order₂ : List Pair} → order₂ ≡ noted xs₃ q₃ r.order order₁ → {built : Built} → built ≡ r.built → BuiltAssigned keys values modulus table ds xs q order ms seen built table₂ ds₃ xs₃ q₃ order₂ ms₃ seen₁
+        pub assigned_built : {order₂ : List Pair} → order₂ ≡ noted xs₃ q₃ r.order order₁ → {built : Result Index Refusal} → built ≡ r.built → BuiltAssigned keys values modulus table ds xs q order ms seen (told_index built) table₂ ds₃ xs₃ q₃ order₂ ms₃ seen₁
         assigned_built n₂ b =
             record {
               to = assembled Assigned keys _ _ _ _ _ table ds xs q order ms r table₁ ds₁ xs₁ q₁ ms₁ a.to n₁ modulus valued w assigned_words c n₂ b;
@@ -266,15 +270,19 @@ module _ (keys table occ ds xs q : List ℕ) (order : List Pair) (ms : List ℕ)
   pub compact_notes : Notes xs₁ q₁ order r.pairs
   compact_notes = notes_first Compact keys _ _ _ _ _ table ds xs q order ms r table₁ ds₁ xs₁ q₁ ms₁ a.to
 
-  pub compact_bytes : 0 < r.pairs → occupancy_bytes r.m ≤ length occ₁
+  compact_bytes : 0 < r.pairs → occupancy_bytes r.m ≤ length occ₁
   compact_bytes h = omega (arith, zeroed_long (a.occupied h), (a.occupied h).room)
 
   module _ {order₁ : List Pair} (n₁ : order₁ ≡ noted xs₁ q₁ r.pairs order) where
-    pub compact_pairs : PairsReady r.pairs (length keys) r.m 3 (λ p. part_of r.m p.at) order₁ ms₁ table₁
-    compact_pairs =
-        pairs_ready Compact keys _ _ _ _ _ table ds xs q order ms r table₁ ds₁ xs₁ q₁ ms₁ a.to n₁ 3 parted (λ h. omega arith) (λ h. omega arith) (λ h i l. part_below r.m (get_or q₁ i 0))
+    pub compact_pairs : {comes : Pair → ℕ → Type 0} → Follows r.pairs comes (λ p. part_of r.m p.at) order₁ → PairsReady r.pairs (length keys) r.m 3 comes order₁ ms₁ table₁
+    compact_pairs follows =
+        pairs_ready Compact keys _ _ _ _ _ table ds xs q order ms r table₁ ds₁ xs₁ q₁ ms₁ a.to n₁ 3 parted follows (λ h. omega arith) (λ h. omega arith) (λ h i l. part_below r.m (get_or q₁ i 0))
 
-    module _ {table₂ ms₂ occ₂ : List ℕ} (w : PairsAssigned Compact keys r.seed r.pairs r.m 3 (λ p. part_of r.m p.at) order₁ ms₁ table₁ ms₂ table₂) (o : PairsOccupied r.pairs r.m order₁ occ₁ occ₂) where
+    -- the pairs name vertices with room for their bits
+    pub compact_occupies : Occupies r.pairs r.m order₁ occ₁
+    compact_occupies = let p = compact_pairs {comes = λ p x. x ≡ part_of r.m p.vert} (λ i x l h. h) in record { room = p.room; vertices = p.vertices; bytes = compact_bytes }
+
+    module _ {table₂ ms₂ occ₂ : List ℕ} (w : PairsAssigned (graph_of Compact keys r.seed r.m) r.pairs r.m 3 (λ p. part_of r.m p.at) order₁ ms₁ table₁ ms₂ table₂) (o : PairsOccupied r.pairs r.m order₁ occ₁ occ₂) where
       compact_words : 0 < r.pairs → compact_table keys ≡ words_for Compact keys 3 parted
       compact_words h = many_compact_table keys r.m (a.to.pending h).many (a.to.pending h).is
 
@@ -312,7 +320,7 @@ module _ (keys table occ ds xs q : List ℕ) (order : List Pair) (ms : List ℕ)
         pub compact_again : Notes xs₃ q₃ order₁ r.order
         compact_again = notes_again Compact keys _ _ _ _ _ table ds xs q order ms r table₁ ds₁ xs₁ q₁ ms₁ a.to n₁ 3 parted w compact_words c
 
-        pub compact_built : {order₂ : List Pair} → order₂ ≡ noted xs₃ q₃ r.order order₁ → {built : Built} → built ≡ r.built → BuiltCompact keys table occ ds xs q order ms built table₂ occ₂ ds₃ xs₃ q₃ order₂ ms₃
+        pub compact_built : {order₂ : List Pair} → order₂ ≡ noted xs₃ q₃ r.order order₁ → {built : Result Index Refusal} → built ≡ r.built → BuiltCompact keys table occ ds xs q order ms (told_index built) table₂ occ₂ ds₃ xs₃ q₃ order₂ ms₃
         compact_built n₂ b =
             record {
               to = assembled Compact keys _ _ _ _ _ table ds xs q order ms r table₁ ds₁ xs₁ q₁ ms₁ a.to n₁ 3 parted w compact_words c n₂ b;

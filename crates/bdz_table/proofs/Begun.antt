@@ -1,23 +1,24 @@
 -- A build that has passed its early checks: its buffers have room, their needed parts have the right shape, and what a run leaves in
 -- the parts is what the promise says of the whole. Assumes nothing.
-use Rattle.std.proofs.Common.{◌≡◌, ℕ, zero, suc, ◌^◌, ◌<◌, ◌≤◌, Bool, true, false, cond, not, ◌&&◌, ◌||◌, eqb, ltb, ◌⊎◌, List, [], ◌∷◌, ◌++◌, length, get_or, take, drop, set, replicate, sym, refl, ◌∙◌, inl, inr, ⊎_elim, le_of_suc-le-suc, not-suc-le-zero, arith, length-append, length-drop, length-set, take-append-drop, length-take-le, ltb-false, ltb-true, le-ltb, ne_eqb, eqb-true}
+use Rattle.std.proofs.Common.{Result, ◌≡◌, ℕ, zero, suc, ◌^◌, ◌<◌, ◌≤◌, Bool, true, false, cond, not, ◌&&◌, ◌||◌, eqb, ltb, ◌⊎◌, List, [], ◌∷◌, ◌++◌, length, get_or, take, drop, set, replicate, sym, refl, ◌∙◌, inl, inr, ⊎_elim, le_of_suc-le-suc, not-suc-le-zero, arith, length-append, length-drop, length-set, take-append-drop, length-take-le, ltb-false, ltb-true, le-ltb, ne_eqb, eqb-true}
 use borrow.Author.Tests.{eqb-false}
 use lib.ListN.{length-replicate}
 use Rattle.bdz_base.specs.Buffer.{over, written}
 use Rattle.bdz_base.specs.Refusal.{refuse, accept}
 use Rattle.bdz_base.specs.Sizes.{occupancy_bytes}
+use Rattle.bdz_base.specs.declared.refusal.Refusal.{Refusal}
 use Rattle.bdz_base.specs.declared.verts.Kind.{Kind}
 use Rattle.bdz_base.specs.declared.verts.Kind.TheVariants.{Assigned, Compact}
 use Rattle.bdz_table.specs.Assign.{assign}
-use Rattle.bdz_table.specs.Build.{vertices_for, needs_of, lacks_room, assigned_early, compact_early, begun, late_no, build_no, seed_for, width_for, index_for, refused_build, built_for, words_for, assigned_table, compact_table, compact_occupancy, lengths_with}
+use Rattle.bdz_table.specs.Build.{vertices_for, needs_of, lacks_room, assigned_early, compact_early, begun, late_no, build_no, seed_for, width_for, index_for, built_for, words_for, assigned_table, compact_table, compact_occupancy, lengths_with}
 use Rattle.bdz_table.specs.Graph.{has}
 use Rattle.bdz_table.specs.Peel.{Cut}
-use Rattle.bdz_table.specs.Steps.{Shaped, RanTo, new_if, Used, ReadyTo, untouched_of}
+use Rattle.bdz_table.specs.Steps.{Ran, Shaped, RanTo, new_if, Used, ReadyTo, untouched_of}
 use Rattle.bdz_table.specs.Values.{values_no}
-use Rattle.bdz_table.specs.declared.build.Ran.{Ran}
-use Rattle.bdz_table.specs.declared.index.Built.{Built}
 use Rattle.bdz_table.specs.declared.index.Needs.{Needs}
 use Rattle.bdz_table.specs.declared.needs.Lengths.{Lengths}
+use Rattle.bdz_table.specs.declared.index.Index.{Index}
+use Rattle.bdz_table.specs.Told.{told_index, refused_build}
 use Rattle.bdz_table.proofs.Bits.{length_occupancy}
 use Rattle.bdz_table.proofs.Fold.{clash}
 use Rattle.bdz_table.proofs.Has.{lt_or_ge}
@@ -262,7 +263,7 @@ unused : (s : List ℕ) → Used 0 s s
 unused s = record { room = omega arith; long = refl; behind = refl }
 
 module _ (kind : Kind) (keys : List ℕ) (early verdict modulus : ℕ) (need : Needs) (order : ℕ) (words table ds xs q ms : List ℕ) where
-  untouched : {built : Built} → built ≡ built_for (build_no kind keys early verdict) (index_for kind keys modulus) → begun (length keys) early ≡ false → table ≡ written (build_no kind keys early verdict) words table
+  untouched : {built : Result Index Refusal} → told_index built ≡ built_for (build_no kind keys early verdict) (index_for kind keys modulus) → begun (length keys) early ≡ false → table ≡ written (build_no kind keys early verdict) words table
       → ReadyTo kind keys (build_no kind keys early verdict) (begun (length keys) early) (index_for kind keys modulus) need order words table ds xs q ms (untouched_of built) table ds xs q ms
   untouched e b t =
       record {
@@ -280,7 +281,7 @@ module _ (kind : Kind) (keys : List ℕ) (early verdict modulus : ℕ) (need : N
       }
 
   -- an early refusal
-  pub refused_early : {built : Built} → built ≡ refused_build early → eqb early 0 ≡ false
+  pub refused_early : {built : Result Index Refusal} → told_index built ≡ refused_build early → eqb early 0 ≡ false
       → ReadyTo kind keys (build_no kind keys early verdict) (begun (length keys) early) (index_for kind keys modulus) need order words table ds xs q ms (untouched_of built) table ds xs q ms
   refused_early e h = untouched (e ∙ simp h) (not_begun_refused (length keys) early h) (simp h)
 
@@ -289,7 +290,7 @@ module _ (kind : Kind) (keys : List ℕ) (early verdict modulus : ℕ) (need : N
   unfolding index_for vertices_for seed_for
   empty_answer given g e l = simp (e, l, g)
 
-  pub built_empty : {built : Built} (given : ℕ) → built ≡ built_for 0 (record { kind = kind; n = 0; m = 0; seed = 0; modulus = given; width = width_for kind given }) → given ≡ modulus → early ≡ 0 → length keys ≡ 0 → words ≡ []
+  pub built_empty : {built : Result Index Refusal} (given : ℕ) → told_index built ≡ built_for 0 (record { kind = kind; n = 0; m = 0; seed = 0; modulus = given; width = width_for kind given }) → given ≡ modulus → early ≡ 0 → length keys ≡ 0 → words ≡ []
       → ReadyTo kind keys (build_no kind keys early verdict) (begun (length keys) early) (index_for kind keys modulus) need order words table ds xs q ms (untouched_of built) table ds xs q ms
   built_empty given b g e l w = untouched (b ∙ empty_answer given g e l) (not_begun_empty (length keys) early l) (simp (e, l, w))
 

@@ -1,14 +1,15 @@
 -- Counting the keys into the tables, and the first queue. Assumes nothing.
 use Rattle.std.proofs.Common.{◌≡◌, ℕ, zero, suc, ◌+◌, ◌<◌, ◌≤◌, Bool, true, false, eqb, ◌⊎◌, List, [], ◌∷◌, ◌++◌, length, get_or, take, set, sym, refl, ap, ◌∙◌, ap₂, inl, inr, ⊎_elim, append-nil, le_of_suc-le-suc, eq-or-lt_of_le, add-one, arith, length-append, length-set, take-suc-set, eq-eqb, ne_eqb}
 use lib.Bits.{bit_xor}
-use Rattle.bdz_base.specs.Verts.{verts_of, Below, Different}
+use Rattle.bdz_base.specs.Verts.{Below, Different}
 use Rattle.bdz_base.specs.declared.verts.Verts.{Verts}
 use Rattle.bdz_base.specs.declared.verts.Kind.{Kind}
 use Rattle.bdz_base.proofs.VertexLaws.{vertices_below, vertices_different}
 use Rattle.bdz_table.specs.Graph.{has, Distinct, only_if, fold_to, count_to, xor_to, live_on, degree, xor_at, Graph, Crowded}
-use Rattle.bdz_table.specs.Keys.{listed, graph_of}
+use Rattle.bdz_table.specs.Keys.{listed, graph_of, graph_at}
+use Rattle.bdz_table.specs.declared.graph.Graph as code
 use Rattle.bdz_table.specs.Peel.{keep_if, up_to}
-use Rattle.bdz_table.specs.Steps.{Places, Added, Full, AddedOr, Tables, Clear, carrying, Queued}
+use Rattle.bdz_table.specs.Steps.{Places, Added, Full, AddedOr, Tables, Clear, carrying}
 use Rattle.bdz_table.proofs.Fold.{clash, count_true, count_false}
 use Rattle.bdz_table.proofs.Has.{known, has_other, has_cons}
 use Rattle.bdz_table.proofs.Leaving.{carrying_append}
@@ -38,6 +39,9 @@ graph_of_lem kind keys seed n m h =
       distinct = λ e l. three_distinct (vertices_different kind (get_or keys e 0) seed m h);
       inside = λ e v l t. three_inside m v (vertices_below kind (get_or keys e 0) seed m (omega arith)) t;
     }
+
+pub graph_at_lem : (graph : code.Graph) (n : ℕ) → 3 ≤ graph.m → Graph (graph_at graph) n graph.m
+graph_at_lem graph n h = graph_of_lem graph.kind graph.keys.now graph.seed n graph.m h
 
 pub graph_few : (kind : Kind) (keys : List ℕ) (seed m e : ℕ) → length (graph_of kind keys seed m e) ≡ 3
 unfolding graph_of
@@ -71,11 +75,6 @@ module _ (vs : ℕ → List ℕ) (n m : ℕ) where
   pub counted_none : (ds xs : List ℕ) → Clear n m ds xs → Counted vs n m ds xs 0
   unfolding degree xor_at count_to xor_to fold_to
   counted_none ds xs c = record { upto = omega arith; longd = c.longd; longx = c.longx; tables = record { degrees = c.zerod; xors = c.zerox } }
-
-  pub counted_all : (ds xs : List ℕ) (i : ℕ) → Counted vs n m ds xs i → n ≤ i → Tables vs n [] ds xs
-  counted_all ds xs i c l =
-      let e : i ≡ n = omega (arith, c.upto) in
-      rw e at c.tables
 
   module _ (ds xs : List ℕ) (i : ℕ) (c : Counted vs n m ds xs i) (l : i < n) where
     pub counted_places : Graph vs n m → Places (vs i) ds xs
@@ -135,11 +134,6 @@ pub filling_none : (ds q : List ℕ) → Filling ds q q 0 0
 unfolding up_to carrying
 filling_none ds q = record { upto = omega arith; long = refl; queue = refl; count = refl }
 
-pub filling_all : (ds q₀ q : List ℕ) (n v : ℕ) → Filling ds q₀ q n v → length ds ≤ v → Queued ds q n
-filling_all ds q₀ q n v i l =
-    let e : v ≡ length ds = omega (arith, i.upto) in
-    record { queue = i.queue ∙ ap (λ (x : ℕ). carrying 1 ds (up_to x)) e; count = i.count ∙ ap (λ (x : ℕ). length (carrying 1 ds (up_to x))) e }
-
 module _ (ds q₀ q : List ℕ) (n v : ℕ) (i : Filling ds q₀ q n v) (l : v < length ds) where
   pub filling_skip : (get_or ds v 0 ≡ 1 → ⊥) → Filling ds q₀ q n (v + 1)
   filling_skip h =
@@ -171,8 +165,3 @@ module _ (us us' : List ℕ) (e : ℕ) (ds xs ds' xs' : List ℕ) (q : us ≡ us
   pub full_of : (b : Bool) → b ≡ false → AddedOr b us e ds xs ds' xs' → Full us' ds
   full_of true h a = clash refl h
   full_of false h a = rw q at a
-
--- the vertices of key i, as the walk has them
-pub vertices_at : (kind : Kind) (keys : List ℕ) (seed m i : ℕ) {us : List ℕ} → us ≡ listed (verts_of kind (get_or keys i 0) seed m) → us ≡ graph_of kind keys seed m i
-unfolding graph_of
-vertices_at kind keys seed m i e = e

@@ -1,14 +1,13 @@
 -- The values of an assigned build, judged one by one: between two of them, the bytes are the occupancy of those that came, and
 -- what is left to judge is what was to judge at first. Assumes nothing.
-use Rattle.std.proofs.Common.{◌≡◌, ℕ, suc, ◌+◌, ◌/◌, ◌<◌, ◌≤◌, Bool, true, false, not, eqb, ltb, List, [], ◌∷◌, length, get_or, drop, replicate, sym, refl, ◌∙◌, add-one, arith, drop_of_length-le, drop-cons, le-ltb, lt-ltb}
-use lib.ListN.{length-replicate}
+use Rattle.std.proofs.Common.{◌≡◌, ℕ, suc, ◌+◌, ◌<◌, ◌≤◌, Bool, true, false, not, eqb, ltb, List, [], ◌∷◌, length, get_or, drop, replicate, sym, refl, ◌∙◌, add-one, drop_of_length-le, drop-cons, le-ltb, lt-ltb}
 use Rattle.bdz_base.specs.Pack.{bits_at}
 use Rattle.bdz_base.specs.Refusal.{refuse}
 use Rattle.bdz_base.specs.Sizes.{occupancy_bytes}
 use Rattle.bdz_table.specs.Graph.{has, only_if}
 use Rattle.bdz_table.specs.Occupancy.{with_bit, occupancy_of}
 use Rattle.bdz_table.specs.Values.{values_no}
-use Rattle.bdz_table.proofs.Bits.{length_occupancy, occupancy_none, occupancy_more, occupancy_bit}
+use Rattle.bdz_table.proofs.Bits.{occupancy_none, occupancy_more, occupancy_bit}
 
 -- i values were judged, and none refused
 pub record Judging (modulus : ℕ) (values seen : List ℕ) (i : ℕ) : Type 0 where
@@ -27,14 +26,6 @@ only_one true = refl
 only_one false = refl
 
 module _ {modulus : ℕ} {values seen : List ℕ} {i : ℕ} (p : Judging modulus values seen i) where
-  -- the bytes stay as many as they were
-  pub judging_length : {seen₀ : List ℕ} → seen₀ ≡ replicate (occupancy_bytes modulus) 0 → length seen ≡ length seen₀
-  judging_length e = rw (p.came, e, length_occupancy modulus p.earlier) (sym (length-replicate (occupancy_bytes modulus) 0))
-
-  -- there is a bit for every value below the modulus
-  pub judging_room : (x : ℕ) → x < modulus → x / 8 < length seen
-  judging_room x h = rw (p.came, length_occupancy modulus p.earlier) (omega arith)
-
   -- all were judged
   pub judging_all : length values ≤ i → 0 ≡ values_no modulus [] values
   unfolding values_no

@@ -1,11 +1,10 @@
 -- The tables and the queue after a key left the first j of its vertices. Assumes nothing.
-use Rattle.std.proofs.Common.{◌≡◌, ℕ, ◌+◌, ◌-◌, ◌<◌, ◌≤◌, Bool, true, false, cond, eqb, List, [], ◌∷◌, ◌++◌, length, get_or, take, drop, set, sym, refl, ap, ◌∙◌, append_assoc, append-nil, add-zero, add-one, arith, length-append, length-set, take-append-drop, take_all, take-suc, take-suc-set, eq-eqb, ne_eqb}
-use lib.Bits.{bit_xor, xor_zero_r}
-use Rattle.bdz_table.specs.Graph.{has, only_if}
+use Rattle.std.proofs.Common.{◌≡◌, ℕ, ◌+◌, ◌-◌, ◌<◌, ◌≤◌, Bool, true, false, eqb, List, [], ◌∷◌, ◌++◌, length, get_or, take, drop, set, sym, refl, ap, ◌∙◌, append_assoc, append-nil, add-zero, add-one, arith, length-append, length-set, take-append-drop, take-suc, take-suc-set, eq-eqb, ne_eqb}
+use lib.Bits.{bit_xor}
 use Rattle.bdz_table.specs.Peel.{keep_if}
-use Rattle.bdz_table.specs.Steps.{Leaves, Left, carrying}
+use Rattle.bdz_table.specs.Steps.{Leaves, carrying}
 use Rattle.bdz_table.proofs.AddKey.{has_get_d}
-use Rattle.bdz_table.proofs.Mapped.{Mapped, mapped_none, mapped_all, mapped_here, mapped_more}
+use Rattle.bdz_table.proofs.Mapped.{Mapped, mapped_none, mapped_here, mapped_more}
 
 pub carrying_append : (k : ℕ) (ds xs ys : List ℕ) → carrying k ds (xs ++ ys) ≡ carrying k ds xs ++ carrying k ds ys
 unfolding carrying
@@ -50,23 +49,6 @@ module _ (us : List ℕ) (e : ℕ) (ds xs q : List ℕ) (qn : ℕ) where
       }
 
   module _ (p : Leaves us ds xs q qn) (ds' xs' q' : List ℕ) (n j : ℕ) (i : Leaving us e ds xs q qn ds' xs' q' n j) where
-    pub leaving_all : length us ≤ j → Left us e ds xs q qn ds' xs' q' n
-    leaving_all l =
-        record {
-          degrees = λ v. degree v (has v us) refl (mapped_all (λ d. d - 1) us ds ds' j i.deg l v);
-          xors = λ v. mapped_all (λ x. bit_xor x e) us xs xs' j i.xor l v ∙ both v (has v us);
-          count = i.count ∙ ap (λ (t : List ℕ). qn + length (carrying 2 ds t)) (take_all j us l);
-          queue = i.queue ∙ ap (λ (t : List ℕ). take qn q ++ carrying 2 ds t) (take_all j us l);
-        }
-      where
-        degree : (v : ℕ) (b : Bool) → has v us ≡ b → get_or ds' v 0 ≡ cond b (get_or ds v 0 - 1) (get_or ds v 0) → get_or ds' v 0 + only_if b 1 ≡ get_or ds v 0
-        degree v true h k = omega (arith, p.carried v h)
-        degree v false h k = omega arith
-
-        both : (v : ℕ) (b : Bool) → cond b (bit_xor (get_or xs v 0) e) (get_or xs v 0) ≡ bit_xor (get_or xs v 0) (only_if b e)
-        both v true = refl
-        both v false = sym (xor_zero_r (get_or xs v 0))
-
     module _ (l : j < length us) where
       pub leaving_inside : get_or us j 0 < length ds'
       leaving_inside = omega (arith, p.places.inside (get_or us j 0) (has_get_d us j l), i.deg.long)

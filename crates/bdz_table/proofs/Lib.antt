@@ -29,6 +29,7 @@ pub mod Ranks
 pub mod Readying
 pub mod Runs
 pub mod Tries
+pub mod ToldLaws
 pub mod Turning
 pub mod TwoBuilt
 pub mod Words

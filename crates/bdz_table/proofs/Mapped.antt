@@ -1,5 +1,5 @@
 -- A table after a step f was made at the first j of some different places. Assumes nothing.
-use Rattle.std.proofs.Common.{◌≡◌, ℕ, ◌+◌, ◌<◌, ◌≤◌, Bool, cond, eqb, List, length, get_or, take, set, sym, refl, ap, ◌∙◌, ⊎_elim, arith, length-set, take_all, get_or-set_other, get_or-set_same, eqb-true}
+use Rattle.std.proofs.Common.{◌≡◌, ℕ, ◌+◌, ◌<◌, Bool, cond, eqb, List, length, get_or, take, set, sym, refl, ap, ◌∙◌, ⊎_elim, arith, length-set, get_or-set_other, get_or-set_same, eqb-true}
 use borrow.Author.Tests.{eqb-false}
 use Rattle.bdz_table.specs.Graph.{has, Distinct}
 use Rattle.bdz_table.proofs.Has.{known}
@@ -15,9 +15,6 @@ module _ (f : ℕ → ℕ) (us t : List ℕ) where
   mapped_none = record { long = refl; cells = λ v. refl }
 
   module _ (t' : List ℕ) (j : ℕ) (i : Mapped f us t t' j) where
-    pub mapped_all : length us ≤ j → (v : ℕ) → get_or t' v 0 ≡ cond (has v us) (f (get_or t v 0)) (get_or t v 0)
-    mapped_all l v = i.cells v ∙ ap (λ (p : List ℕ). cond (has v p) (f (get_or t v 0)) (get_or t v 0)) (take_all j us l)
-
     module _ (d : Distinct us) (l : j < length us) where
       -- the next place is as it was
       pub mapped_here : get_or t' (get_or us j 0) 0 ≡ get_or t (get_or us j 0) 0

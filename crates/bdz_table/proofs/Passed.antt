@@ -1,5 +1,7 @@
 -- What is known once super counts or a lookup are not refused, and what the answers then are. Assumes nothing.
-use Rattle.std.proofs.Common.{◌≡◌, ℕ, zero, suc, ◌+◌, ◌%◌, ◌^◌, ◌<◌, ◌≤◌, Bool, true, false, eqb, ltb, List, length, get_or, refl, ap, ◌∙◌, ⊎_elim, mod-lt, arith, ltb-false, le-ltb, lt-ltb, ne_eqb}
+use Rattle.std.proofs.Common.{◌≡◌, ℕ, zero, suc, ◌+◌, ◌%◌, ◌^◌, ◌<◌, ◌≤◌, Bool, true, false, eqb, ltb, List, ◌++◌, length, get_or, take, drop, replicate, length-take-le, add-one, refl, ap, ◌∙◌, ⊎_elim, mod-lt, arith, ltb-false, le-ltb, lt-ltb, ne_eqb}
+use lib.ListN.{length-replicate}
+use Rattle.std.proofs.lemmas.List.{replicate_more}
 use native.Mathlib.Nat.{min-eq_left}
 use borrow.Author.Tests.{eqb-false}
 use Rattle.bdz_base.specs.Buffer.{tab, over}
@@ -154,3 +156,12 @@ module _ (index : Index) (table occ supers keys : List ℕ) where
   pub answers_compact : 2 ≤ index.n → index.kind ≡ Compact → answers_of index table occ supers keys ≡ tab (λ i. compact_answer index.seed index.m index.n table occ supers (get_or keys i 0)) (length keys)
   unfolding answer_of
   answers_compact h e = rw (le-ltb index.n 2 h, e)
+
+tab_same : (x n : ℕ) → tab (λ i. x) n ≡ replicate n x
+unfolding tab
+tab_same x zero = refl
+tab_same x (suc n) = rw (tab_same x n) (rw add-one at (replicate_more {X = ℕ} n x))
+
+-- one answer for all keys
+pub same_answers : (x n : ℕ) (old some : List ℕ) → n ≤ length old → some ≡ replicate (length (take n old)) x → some ++ drop n old ≡ over (tab (λ i. x) n) old
+same_answers x n old some h e = rw (tab_same x n, e, length-take-le n old h, length-replicate {A = ℕ} n x)

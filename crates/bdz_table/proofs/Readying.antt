@@ -1,18 +1,19 @@
 -- What a run leaves in the needed parts is, in the whole of what is lent, a build up to its pairs. Assumes nothing.
-use Rattle.std.proofs.Common.{◌≡◌, ℕ, zero, suc, ◌<◌, ◌≤◌, Bool, true, false, cond, eqb, List, [], ◌++◌, length, get_or, take, drop, replicate, sym, refl, ap, ◌∙◌, ⊎_elim, arith, length-take-le, take_at, drop_at, le-ltb, lt-ltb, eqb-true}
+use Rattle.std.proofs.Common.{Result, ◌≡◌, ℕ, zero, suc, ◌<◌, ◌≤◌, Bool, true, false, cond, eqb, List, [], ◌++◌, length, get_or, take, drop, replicate, sym, refl, ap, ◌∙◌, ⊎_elim, arith, length-take-le, take_at, drop_at, le-ltb, lt-ltb, eqb-true}
 use lib.ListN.{length-replicate, get_or-append}
 use Rattle.bdz_base.specs.Buffer.{written}
 use Rattle.bdz_base.specs.Refusal.{refuse}
 use Rattle.bdz_base.specs.Sizes.{occupancy_bytes}
+use Rattle.bdz_base.specs.declared.refusal.Refusal.{Refusal}
 use Rattle.bdz_base.specs.declared.verts.Kind.{Kind}
 use Rattle.bdz_base.specs.declared.verts.Kind.TheVariants.{Assigned, Compact}
 use Rattle.bdz_table.specs.Build.{vertices_for, needs_of, begun, stuck, late_no, build_no, width_for, index_for, built_for, assigned_table, compact_table, compact_occupancy, lengths_with}
-use Rattle.bdz_table.specs.Steps.{cuts_of, RanTo, OrderLeft, SoughtMany, Sought, new_if, cleared_if, OccupancySought, Used, Zeroed, Awaiting, ReadyTo, untouched_of, AssignedReady, CompactReady}
+use Rattle.bdz_table.specs.Steps.{Ran, cuts_of, RanTo, OrderLeft, SoughtMany, Sought, new_if, cleared_if, OccupancySought, Used, Zeroed, Awaiting, ReadyTo, untouched_of, AssignedReady, CompactReady}
 use Rattle.bdz_table.specs.Values.{values_no}
-use Rattle.bdz_table.specs.declared.build.Ran.{Ran}
 use Rattle.bdz_table.specs.declared.build.Ready.{Ready}
-use Rattle.bdz_table.specs.declared.index.Built.{Built}
 use Rattle.bdz_table.specs.declared.index.Needs.{Needs}
+use Rattle.bdz_table.specs.declared.index.Index.{Index}
+use Rattle.bdz_table.specs.Told.{told_index}
 use Rattle.bdz_table.proofs.Begun.{Passed, need_table, need_vertices, need_order, answered, number_late, begun_is, written_part, same_part}
 use Rattle.bdz_table.proofs.Has.{lt_or_ge}
 use Rattle.bdz_table.proofs.NeedLaws.{vertices_more}
@@ -83,13 +84,13 @@ occupancy_done none e = record { pending = λ some. absurd (omega arith); done =
 
 -- ---- a build that touches nothing
 
-pub assigned_untouched : (early : ℕ) (keys values : List ℕ) (modulus order : ℕ) (table ds xs q ms seen : List ℕ) {r : Ready} {built : Built} → r ≡ untouched_of built → begun (length keys) early ≡ false
+pub assigned_untouched : (early : ℕ) (keys values : List ℕ) (modulus order : ℕ) (table ds xs q ms seen : List ℕ) {r : Ready} {built : Result Index Refusal} → r ≡ untouched_of built → begun (length keys) early ≡ false
     → ReadyTo Assigned keys (build_no Assigned keys early (values_no modulus [] values)) (begun (length keys) early) (index_for Assigned keys modulus) (needs_of Assigned (length keys) modulus) order (assigned_table keys values modulus) table ds xs q ms (untouched_of built) table ds xs q ms
     → AssignedReady early keys values modulus order table ds xs q ms seen r table ds xs q ms seen
 assigned_untouched early keys values modulus order table ds xs q ms seen e b to =
     rw e (record { to = to; seen_is = rw b; same = λ some. absurd (omega arith); values_limit = λ some. absurd (omega arith); values_below = λ some. absurd (omega arith) })
 
-pub compact_untouched : (early : ℕ) (keys : List ℕ) (order : ℕ) (table occ ds xs q ms : List ℕ) {r : Ready} {built : Built} → r ≡ untouched_of built → occ ≡ written (build_no Compact keys early 0) (compact_occupancy keys) occ
+pub compact_untouched : (early : ℕ) (keys : List ℕ) (order : ℕ) (table occ ds xs q ms : List ℕ) {r : Ready} {built : Result Index Refusal} → r ≡ untouched_of built → occ ≡ written (build_no Compact keys early 0) (compact_occupancy keys) occ
     → ReadyTo Compact keys (build_no Compact keys early 0) (begun (length keys) early) (index_for Compact keys (length keys)) (needs_of Compact (length keys) (length keys)) order (compact_table keys) table ds xs q ms (untouched_of built) table ds xs q ms
     → CompactReady early keys order table occ ds xs q ms r table occ ds xs q ms
 compact_untouched early keys order table occ ds xs q ms e o to =
@@ -102,9 +103,9 @@ unfolding needs_of
 order_below kind n modulus =
     ⊎_elim (λ (l : n < 2). rw (lt-ltb n 2 l) (omega arith)) (λ (l : 2 ≤ n). rw (le-ltb n 2 l) (omega (arith, vertices_more kind n l))) (lt_or_ge n 2)
 
-module _ (kind : Kind) (keys : List ℕ) (modulus early verdict order : ℕ) (new table ds xs q ms occ seen : List ℕ) {needed : Needs} {ran : Ran} {m : ℕ} {built : Built}
+module _ (kind : Kind) (keys : List ℕ) (modulus early verdict order : ℕ) (new table ds xs q ms occ seen : List ℕ) {needed : Needs} {ran : Ran} {m : ℕ} (built : Result Index Refusal)
     (some : 1 ≤ length keys) (passed-early : early ≡ 0) (is : needed ≡ needs_of kind (length keys) modulus) (p : Passed kind (length keys) modulus (lengths_with table ds xs q order ms occ seen)) (words : m ≡ needed.table)
-    (answer : built ≡ built_for ran.no (record { kind = kind; n = length keys; m = m; seed = ran.seed; modulus = modulus; width = width_for kind modulus }))
+    (answer : told_index built ≡ built_for ran.no (record { kind = kind; n = length keys; m = m; seed = ran.seed; modulus = modulus; width = width_for kind modulus }))
     (ran_to : RanTo kind keys verdict ran) where
   size : m ≡ vertices_for kind (length keys)
   size = words ∙ ap (λ (x : Needs). x.table) is ∙ need_table kind (length keys) modulus

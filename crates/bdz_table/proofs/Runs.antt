@@ -1,5 +1,5 @@
 -- What a run comes to, and its table and occupancy. Assumes nothing.
-use Rattle.std.proofs.Common.{◌≡◌, ℕ, ◌+◌, ◌*◌, ◌/◌, ◌^◌, ◌<◌, ◌≤◌, Bool, true, false, cond, eqb, ltb, List, [], ◌∷◌, length, get_or, set, replicate, sym, refl, ap, ◌∙◌, arith, lt-ltb, eq-eqb, ne_eqb}
+use Rattle.std.proofs.Common.{◌≡◌, ℕ, ◌*◌, ◌/◌, ◌^◌, ◌<◌, ◌≤◌, Bool, true, false, cond, eqb, ltb, List, [], ◌∷◌, length, get_or, set, replicate, sym, refl, ◌∙◌, arith, lt-ltb, eq-eqb, ne_eqb}
 use lib.ListN.{length-replicate}
 use Rattle.bdz_base.specs.declared.verts.Kind.{Kind}
 use Rattle.bdz_base.specs.declared.verts.Kind.TheVariants.{Assigned, Compact}
@@ -7,10 +7,8 @@ use Rattle.bdz_table.specs.Assign.{part_of}
 use Rattle.bdz_table.specs.Build.{vertices_for, stuck, late_no, seed_for, cuts_for, words_for, assigned_table, compact_table, compact_occupancy}
 use Rattle.bdz_table.specs.Occupancy.{occupancy_of}
 use Rattle.bdz_table.specs.Peel.{ats_of}
-use Rattle.bdz_table.specs.Seeds.{works_at, first_seed}
-use Rattle.bdz_table.specs.Steps.{Marked, SeedAnswer, RanTo, new_if}
-use Rattle.bdz_table.specs.declared.seeds.Found.{Found}
-use Rattle.bdz_table.proofs.Tries.{first_is}
+use Rattle.bdz_table.specs.Seeds.{first_seed}
+use Rattle.bdz_table.specs.Steps.{Marked, SeedFound, RanTo, new_if}
 use Rattle.bdz_table.proofs.Zeroing.{replicate_zero}
 
 -- ---- the words can be assigned along the order
@@ -35,30 +33,26 @@ part_below m v = go (ltb v (m / 3)) (ltb v (2 * (m / 3)))
 
 -- ---- what a run comes to
 
-module _ (kind : Kind) (keys : List ℕ) (m : ℕ) {xs q : List ℕ} {r : Found} (a : SeedAnswer kind keys m xs q r) (many : 2 ≤ length keys) (is : m ≡ vertices_for kind (length keys)) where
-  first : r.tries ≡ first_seed kind keys (vertices_for kind (length keys))
-  first = a.tries_is ∙ ap (first_seed kind keys) is
-
-  stuck_is : stuck kind keys ≡ eqb r.tries 256
+module _ (kind : Kind) (keys : List ℕ) (m : ℕ) (many : 2 ≤ length keys) (is : m ≡ vertices_for kind (length keys)) where
+  stuck_is : stuck kind keys ≡ eqb (first_seed kind keys m) 256
   unfolding stuck
-  stuck_is = rw (lt-ltb 1 (length keys) many, ← first)
+  stuck_is = rw (lt-ltb 1 (length keys) many, is)
 
   -- none of the seeds works
-  pub ran_stuck : 256 ≤ r.tries → RanTo kind keys 0 (record { no = 5; seed = 0; pairs = 0 })
-  unfolding late_no first_seed
-  ran_stuck l =
-      let f : first_seed kind keys m ≤ 0 + 256 = (first_is (works_at kind keys m) 256 0).limit in
-      let e : r.tries ≡ 256 = omega (arith, a.tries_is) in
+  pub ran_stuck : first_seed kind keys m ≡ 256 → RanTo kind keys 0 (record { no = 5; seed = 0; pairs = 0 })
+  unfolding late_no
+  ran_stuck e =
       record { no_is = simp (stuck_is, eq-eqb _ _ e); seed_is = λ h. absurd (omega arith) }
 
-  module _ (l : r.tries < 256) where
-    pub seed_found : r.seed ≡ seed_for kind keys
+  module _ {xs q : List ℕ} {seed : ℕ} (f : SeedFound kind keys m xs q seed) where
+    pub seed_found : seed ≡ seed_for kind keys
     unfolding seed_for
-    seed_found = a.seed_is l ∙ rw (ne_eqb (length keys) 0 (omega arith), ne_eqb (length keys) 1 (omega arith), first)
+    seed_found = f.seed_is ∙ rw (ne_eqb (length keys) 0 (omega arith), ne_eqb (length keys) 1 (omega arith), is)
 
-    pub ran_found : RanTo kind keys 0 (record { no = 0; seed = r.seed; pairs = length keys })
+    pub ran_found : RanTo kind keys 0 (record { no = 0; seed = seed; pairs = length keys })
     unfolding late_no
-    ran_found = record { no_is = simp (stuck_is, ne_eqb r.tries 256 (omega arith)); seed_is = λ h. seed_found }
+    ran_found =
+        record { no_is = simp (stuck_is, ne_eqb (first_seed kind keys m) 256 (omega (arith, f.limit))); seed_is = λ h. seed_found }
 
 -- ---- refused values, one key, and more
 

@@ -8,7 +8,7 @@ use Rattle.bdz_table.specs.Graph.{has, live_on, degree, Crowded, Peelable, Graph
 use Rattle.bdz_table.specs.Keys.{graph_of}
 use Rattle.bdz_table.specs.Peel.{peel}
 use Rattle.bdz_table.specs.Seeds.{Fails, any_to, crowded, peels_all, works_at, first_from, first_seed}
-use Rattle.bdz_table.specs.Steps.{PeelAnswer, SeedAnswer}
+use Rattle.bdz_table.specs.Steps.{PeelAnswer, SeedFound}
 use Rattle.bdz_table.proofs.Fold.{clash, count_none}
 use Rattle.bdz_table.proofs.Has.{known, lt_or_ge, or_true}
 use Rattle.bdz_table.proofs.Queue.{peel_yes, peel_no}
@@ -140,11 +140,11 @@ module _ (kind : Kind) (keys : List ℕ) (m : ℕ) where
   searching_none = record { limit = omega arith; at = refl; same = refl }
 
   module _ (state tries : ℕ) (s : Searching kind keys m state tries) where
-    pub searching_all : (xs q : List ℕ) → 256 ≤ tries → SeedAnswer kind keys m xs q (record { tries = 256; seed = 0 })
+    pub searching_all : 256 ≤ tries → first_seed kind keys m ≡ 256
     unfolding first_from
-    searching_all xs q l =
+    searching_all l =
         let e : tries ≡ 256 = omega (arith, s.limit) in
-        record { tries_is = rw e at s.same; seed_is = λ h. absurd (omega arith); works = λ h. absurd (omega arith) }
+        sym (rw e at s.same)
 
     module _ (l : tries < 256) {step : Step} (e : step ≡ step_of state) where
       pub seed_here : step.seed ≡ seed_at tries
@@ -164,13 +164,10 @@ module _ (kind : Kind) (keys : List ℕ) (m : ℕ) where
         works_here =
             answered (graph_of kind keys (seed_at tries) m) (length keys) m (graph_of_lem kind keys (seed_at tries) (length keys) m big) b xs q (rw seed_here at a)
 
-        pub searching_found : b ≡ true → SeedAnswer kind keys m xs q (record { tries = tries; seed = step.seed })
+        pub searching_found : b ≡ true → SeedFound kind keys m xs q step.seed
         searching_found t =
-            record {
-              tries_is = sym (first_here (works_at kind keys m) (256 - suc tries) tries (sym works_here ∙ t)) ∙ rw left at s.same;
-              seed_is = λ h. seed_here;
-              works = λ h. (rw seed_here at a).yes t;
-            }
+            let first : first_seed kind keys m ≡ tries = sym (rw left at s.same) ∙ first_here (works_at kind keys m) (256 - suc tries) tries (sym works_here ∙ t) in
+            record { limit = rw first l; seed_is = rw first seed_here; works = rw first ((rw seed_here at a).yes t) }
 
         pub searching_more : b ≡ false → Searching kind keys m step.state (tries + 1)
         searching_more t =

@@ -16,10 +16,10 @@ use Rattle.bdz_table.specs.Occupancy.{occupancy_of}
 use Rattle.bdz_table.specs.Peel.{Cut, keys_of, ats_of, ones, turn_if, turn, turns_if, turns, up_to, peel}
 use Rattle.bdz_table.specs.Seeds.{any_to, crowded, peels_all, works_at, first_from, first_seed}
 use Rattle.bdz_table.specs.Values.{values_no}
-use Rattle.bdz_table.specs.declared.index.Built.{Built}
 use Rattle.bdz_table.specs.declared.index.Index.{Index}
 use Rattle.bdz_table.specs.declared.needs.Lengths.{Lengths}
 use Rattle.bdz_table.specs.declared.pairs.Pair.{Pair}
+use Rattle.bdz_table.specs.Told.{Built}
 
 abbrev keys : List ℕ
 keys = 7 ∷ 8 ∷ []

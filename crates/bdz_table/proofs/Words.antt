@@ -2,11 +2,10 @@
 use Rattle.std.proofs.Common.{◌≡◌, ℕ, ◌+◌, ◌-◌, ◌*◌, ◌%◌, ◌<◌, ◌≤◌, true, eqb, List, [], ◌∷◌, ◌++◌, length, get_or, take, set, sym, refl, ap, ◌∙◌, ap₂, ⊎_elim, add-zero, mod-lt, zero-add, add-one, arith, length-set, take_all, get_or-set_other, take-suc, get_or-set_same, eqb-true}
 use lib.ListN.{get_or-append}
 use borrow.Author.Tests.{eqb-false}
-use Rattle.bdz_base.specs.Verts.{verts_of}
 use Rattle.bdz_base.specs.declared.verts.Kind.{Kind}
 use Rattle.bdz_base.proofs.VertexLaws.{vertices_below}
 use Rattle.bdz_table.specs.Graph.{has}
-use Rattle.bdz_table.specs.Keys.{listed}
+use Rattle.bdz_table.specs.Keys.{graph_of}
 use Rattle.bdz_table.specs.Assign.{sum_at, word_for}
 use Rattle.bdz_table.specs.Steps.{Marked, Reach, Word}
 use Rattle.bdz_table.proofs.Has.{known, has_head, has_tail}
@@ -51,9 +50,6 @@ module _ (M : ℕ) (us ms g : List ℕ) (m : Marked M ms g) (r : Reach us g) (s 
     pub summing_insidem : get_or us j 0 < length ms
     summing_insidem = omega (arith, summing_inside, m.same)
 
-    pub summing_fits : s + get_or g (get_or us j 0) 0 < 4294967296
-    summing_fits = omega (arith, i.bound, r.few, m.small (get_or us j 0), m.limit)
-
     pub summing_add : Summing M us g (s + get_or g (get_or us j 0) 0) (j + 1)
     summing_add =
         record { upto = omega arith; is = omega (arith, i.is, sum_next g us j l); bound = omega (arith, i.bound, m.small (get_or us j 0), m.limit) }
@@ -62,9 +58,10 @@ module _ (M : ℕ) (us ms g : List ℕ) (m : Marked M ms g) (r : Reach us g) (s 
     summing_pass h =
         record { upto = omega arith; is = omega (arith, i.is, sum_next g us j l, m.zero (get_or us j 0) h); bound = omega (arith, i.bound) }
 
-pub reach_of : (kind : Kind) (key seed m : ℕ) (g : List ℕ) → 3 ≤ m → length g ≡ m → Reach (listed (verts_of kind key seed m)) g
-reach_of kind key seed m g z h =
-    record { few = omega arith; inside = λ v t. omega (arith, three_inside m v (vertices_below kind key seed m (omega arith)) t) }
+pub reach_of : (kind : Kind) (keys : List ℕ) (seed m e : ℕ) (g : List ℕ) → 3 ≤ m → length g ≡ m → Reach (graph_of kind keys seed m e) g
+unfolding graph_of
+reach_of kind keys seed m e g z h =
+    record { few = omega arith; inside = λ v t. omega (arith, three_inside m v (vertices_below kind (get_or keys e 0) seed m (omega arith)) t) }
 
 pub word_below : (M x s : ℕ) → 0 < M → word_for M x s < M
 unfolding word_for

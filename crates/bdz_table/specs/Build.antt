@@ -13,9 +13,9 @@ use Rattle.bdz_table.specs.Occupancy.{occupancy_of}
 use Rattle.bdz_table.specs.Order.{no_pair}
 use Rattle.bdz_table.specs.Peel.{Cut, ats_of, peel}
 use Rattle.bdz_table.specs.Seeds.{first_seed}
+use Rattle.bdz_table.specs.Told.{Built, refused_build}
 use Rattle.bdz_table.specs.Values.{values_no}
 use Rattle.bdz_table.specs.declared.index.Index.{Index}
-use Rattle.bdz_table.specs.declared.index.Built.{Built}
 use Rattle.bdz_table.specs.declared.index.Needs.{Needs}
 use Rattle.bdz_table.specs.declared.needs.Lengths.{Lengths}
 use Rattle.bdz_table.specs.declared.pairs.Pair.{Pair}
@@ -124,10 +124,6 @@ index_for kind keys modulus =
       modulus = modulus;
       width = width_for kind modulus;
     }
-
--- "A refused call answers its number, with every other field zero"
-abbrev pub refused_build : ℕ → Built
-refused_build number = record { no = number; index = record { kind = Assigned; n = 0; m = 0; seed = 0; modulus = 0; width = 0 } }
 
 abbrev pub built_for : ℕ → Index → Built
 built_for number index = cond (number == 0) (record { no = 0; index = index }) (refused_build number)

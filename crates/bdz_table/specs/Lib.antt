@@ -10,4 +10,5 @@ pub mod Peel
 pub mod Rank
 pub mod Seeds
 pub mod Steps
+pub mod Told
 pub mod Values

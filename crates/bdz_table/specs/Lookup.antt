@@ -9,7 +9,7 @@ use Rattle.bdz_base.specs.declared.verts.Kind.TheVariants.{Assigned, Compact}
 use Rattle.bdz_table.specs.Assign.{sum_at}
 use Rattle.bdz_table.specs.Keys.{listed}
 use Rattle.bdz_table.specs.Rank.{rank_with, answered}
-use Rattle.bdz_table.specs.declared.index.Answer.{Answer}
+use Rattle.bdz_table.specs.Told.{Answer}
 use Rattle.bdz_table.specs.declared.index.Index.{Index}
 
 -- ---- refusals

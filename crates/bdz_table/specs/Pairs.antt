@@ -1,9 +1,7 @@
 -- What the thin functions over the lent slice of pairs promise one another. No public promise cites it. Assumes nothing.
 use Rattle.std.specs.Prelude.{◌≡◌, ℕ, zero, suc, ◌<◌, ◌≤◌, List, [], ◌∷◌, length, get_or, take, drop, slice_index, slice_index_or, slice_set}
 use Rattle.bdz_base.specs.Sizes.{occupancy_bytes}
-use Rattle.bdz_base.specs.declared.verts.Kind.{Kind}
 use Rattle.bdz_table.specs.Assign.{assign}
-use Rattle.bdz_table.specs.Keys.{graph_of}
 use Rattle.bdz_table.specs.Occupancy.{with_bit}
 use Rattle.bdz_table.specs.Order.{pair_of, no_pair}
 use Rattle.bdz_table.specs.Peel.{Cut}
@@ -44,19 +42,14 @@ pub record PairReady (keys m M value : ℕ) (p : Pair) (ms g : List ℕ) : Type 
   pub vertex : p.vert < m
   pub below : value < M
 
--- its word is assigned, and behind the m words nothing changes
-pub record PairWord (kind : Kind) (keys : List ℕ) (seed m M value : ℕ) (p : Pair) (ms g ms' g' : List ℕ) : Type 0 where
-  pub word : Word M value p.vert (graph_of kind keys seed m p.edge) (take m ms) (take m g) (take m ms') (take m g')
+-- its word is assigned in a graph with the vertices vs, and behind the m words nothing changes
+pub record PairWord (vs : ℕ → List ℕ) (m M value : ℕ) (p : Pair) (ms g ms' g' : List ℕ) : Type 0 where
+  pub word : Word M value p.vert (vs p.edge) (take m ms) (take m g) (take m ms') (take m g')
   pub behindg : drop m g' ≡ drop m g
   pub behindm : drop m ms' ≡ drop m ms
 
--- its vertex's bit is set
-pub record PairOccupied (m : ℕ) (p : Pair) (occ occ' : List ℕ) : Type 0 where
-  pub bit : take (occupancy_bytes m) occ' ≡ with_bit p.vert (take (occupancy_bytes m) occ)
-  pub behind : drop (occupancy_bytes m) occ' ≡ drop (occupancy_bytes m) occ
-
--- the first n pairs, if there are any, name each of n keys and a vertex, with a value below M
-pub record PairsReady (n keys m M : ℕ) (val : Cut → ℕ) (order : List Pair) (ms g : List ℕ) : Type 0 where
+-- the first n pairs, if there are any, name each a key and a vertex, and what it can come to is below M
+pub record PairsReady (n keys m M : ℕ) (comes : Pair → ℕ → Type 0) (order : List Pair) (ms g : List ℕ) : Type 0 where
   pub room : n ≤ length order
   pub big : 0 < n → 3 ≤ m
   pub longg : 0 < n → m ≤ length g
@@ -64,11 +57,15 @@ pub record PairsReady (n keys m M : ℕ) (val : Cut → ℕ) (order : List Pair)
   pub marked : 0 < n → Marked M (take m ms) (take m g)
   pub edges : (i : ℕ) → i < n → (get_or order i no_pair).edge < keys
   pub vertices : (i : ℕ) → i < n → (get_or order i no_pair).vert < m
-  pub values : (i : ℕ) → i < n → val (cut_of (slice_index_or order i no_pair)) < M
+  pub values : (i r : ℕ) → i < n → comes (get_or order i no_pair) r → r < M
+
+-- what each of the first n pairs can come to is its val
+abbrev pub Follows : ℕ → (Pair → ℕ → Type 0) → (Cut → ℕ) → List Pair → Type 0
+Follows n comes val order = (i r : ℕ) → i < n → comes (get_or order i no_pair) r → r ≡ val (cut_of (get_or order i no_pair))
 
 -- their words are assigned
-pub record PairsAssigned (kind : Kind) (keys : List ℕ) (seed n m M : ℕ) (val : Cut → ℕ) (order : List Pair) (ms g ms' g' : List ℕ) : Type 0 where
-  pub words : take m g' ≡ assign (graph_of kind keys seed m) M val (cuts_in order n) (take m g)
+pub record PairsAssigned (vs : ℕ → List ℕ) (n m M : ℕ) (val : Cut → ℕ) (order : List Pair) (ms g ms' g' : List ℕ) : Type 0 where
+  pub words : take m g' ≡ assign vs M val (cuts_in order n) (take m g)
   pub behindg : drop m g' ≡ drop m g
   pub behindm : drop m ms' ≡ drop m ms
   pub idle : n ≡ 0 → ms' ≡ ms
@@ -78,6 +75,13 @@ unfoldable pub bits_of : List Cut → List ℕ → List ℕ
 bits_of [] occ = occ
 bits_of (p ∷ older) occ = bits_of older (with_bit p.at occ)
 
+-- the first n pairs, if there are any, name each a vertex, and there is room for its bit
+pub record Occupies (n m : ℕ) (order : List Pair) (occ : List ℕ) : Type 0 where
+  pub room : n ≤ length order
+  pub vertices : (i : ℕ) → i < n → (get_or order i no_pair).vert < m
+  pub bytes : 0 < n → occupancy_bytes m ≤ length occ
+
+-- their bits are set
 pub record PairsOccupied (n m : ℕ) (order : List Pair) (occ occ' : List ℕ) : Type 0 where
   pub bits : take (occupancy_bytes m) occ' ≡ bits_of (cuts_in order n) (take (occupancy_bytes m) occ)
   pub behind : drop (occupancy_bytes m) occ' ≡ drop (occupancy_bytes m) occ

@@ -5,7 +5,7 @@ use Rattle.bdz_base.specs.Buffer.{tab, written}
 use Rattle.bdz_base.specs.Pack.{value_of}
 use Rattle.bdz_base.specs.Refusal.{refuse}
 use Rattle.bdz_base.specs.Sizes.{occupancy_bytes, super_count}
-use Rattle.bdz_table.specs.declared.index.Answer.{Answer}
+use Rattle.bdz_table.specs.Told.{Answer}
 
 -- ---- ones
 

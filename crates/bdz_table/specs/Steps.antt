@@ -1,21 +1,22 @@
 -- What the peeler's own steps promise one another of the lent buffers. No public promise cites it. Assumes nothing.
-use Rattle.std.specs.Prelude.{◌≡◌, ℕ, zero, suc, ◌+◌, ◌^◌, ◌<◌, ◌≤◌, Bool, true, false, cond, List, [], ◌∷◌, ◌++◌, length, take, drop, replicate, ◌==◌, ◌≢◌, bit_xor, slice_index, slice_index_or, slice_set}
+use Rattle.std.specs.Prelude.{◌≡◌, ℕ, zero, suc, ◌+◌, ◌^◌, ◌<◌, ◌≤◌, Bool, true, false, cond, Option, Some, None, List, [], ◌∷◌, ◌++◌, length, take, drop, replicate, ◌==◌, ◌≢◌, bit_xor, slice_index, slice_index_or, slice_set, Result, Ok, Err}
 use Rattle.bdz_base.specs.Buffer.{over, written}
 use Rattle.bdz_base.specs.Mix.{seed_at}
+use Rattle.bdz_base.specs.Refusal.{number}
 use Rattle.bdz_base.specs.Sizes.{occupancy_bytes}
+use Rattle.bdz_base.specs.declared.refusal.Refusal.{Refusal}
 use Rattle.bdz_base.specs.declared.verts.Kind.{Kind}
 use Rattle.bdz_base.specs.declared.verts.Kind.TheVariants.{Assigned, Compact}
 use Rattle.bdz_table.specs.Graph.{has, Distinct, only_if, degree, xor_at, Crowded, Peelable}
 use Rattle.bdz_table.specs.Peel.{Cut, keep_if, ones, up_to, peel}
 use Rattle.bdz_table.specs.Keys.{graph_of}
 use Rattle.bdz_table.specs.Seeds.{Fails, first_seed}
-use Rattle.bdz_table.specs.declared.seeds.Found.{Found}
 use Rattle.bdz_table.specs.Assign.{sum_at, word_for}
 use Rattle.bdz_table.specs.Build.{vertices_for, needs_of, assigned_early, compact_early, begun, late_no, build_no, seed_for, cuts_for, index_for, built_for, assigned_table, compact_table, compact_occupancy, cleared, lengths_with}
+use Rattle.bdz_table.specs.Told.{told_index}
 use Rattle.bdz_table.specs.Values.{values_no}
-use Rattle.bdz_table.specs.declared.build.Ran.{Ran}
 use Rattle.bdz_table.specs.declared.build.Ready.{Ready}
-use Rattle.bdz_table.specs.declared.index.Built.{Built}
+use Rattle.bdz_table.specs.declared.build.Run.{Run}
 use Rattle.bdz_table.specs.declared.index.Index.{Index}
 use Rattle.bdz_table.specs.declared.index.Needs.{Needs}
 
@@ -126,11 +127,16 @@ pub record Lent (n m : ℕ) (ds xs q : List ℕ) : Type 0 where
   pub longx : length xs ≡ m
   pub longq : length q ≡ m
 
--- the first of the 256 seeds that works, with the order that it gave, or 256 where each fails
-pub record SeedAnswer (kind : Kind) (keys : List ℕ) (m : ℕ) (xs q : List ℕ) (r : Found) : Type 0 where
-  pub tries_is : r.tries ≡ first_seed kind keys m
-  pub seed_is : r.tries < 256 → r.seed ≡ seed_at r.tries
-  pub works : r.tries < 256 → Works (graph_of kind keys (seed_at r.tries) m) (length keys) m xs q
+-- the first try that works is one of the 256, and gave this seed and this order
+pub record SeedFound (kind : Kind) (keys : List ℕ) (m : ℕ) (xs q : List ℕ) (seed : ℕ) : Type 0 where
+  pub limit : first_seed kind keys m < 256
+  pub seed_is : seed ≡ seed_at (first_seed kind keys m)
+  pub works : Works (graph_of kind keys (seed_at (first_seed kind keys m)) m) (length keys) m xs q
+
+-- the first of the 256 seeds that works, with the order that it gave, or none where each fails
+abbrev pub SeedAnswer : Kind → List ℕ → ℕ → List ℕ → List ℕ → Option ℕ → Type 0
+SeedAnswer kind keys m xs q (Some seed) = SeedFound kind keys m xs q seed
+SeedAnswer kind keys m xs q None = first_seed kind keys m ≡ 256
 
 -- ---- the assigns
 
@@ -167,7 +173,17 @@ pub record Shaped (kind : Kind) (keys : List ℕ) (m : ℕ) (table ds xs q ms : 
   pub longt : length table ≡ m
   pub many : 2 ≤ length keys → Many kind keys m table ds xs q ms
 
--- what a run came to: its number, and its seed
+-- what a run came to, told by number: one that was refused has no seed and no pairs
+pub record Ran : Type 0 where
+  pub no : ℕ
+  pub seed : ℕ
+  pub pairs : ℕ
+
+abbrev pub told_run : Result Run Refusal → Ran
+told_run (Ok run) = record { no = 0; seed = run.seed; pairs = run.pairs }
+told_run (Err refusal) = record { no = number refusal; seed = 0; pairs = 0 }
+
+-- its number, and its seed
 pub record RanTo (kind : Kind) (keys : List ℕ) (verdict : ℕ) (r : Ran) : Type 0 where
   pub no_is : r.no ≡ late_no kind keys verdict
   pub seed_is : r.no ≡ 0 → r.seed ≡ seed_for kind keys
@@ -241,7 +257,7 @@ pub record Awaiting (kind : Kind) (keys : List ℕ) (number : ℕ) (r : Ready) (
 
 -- a build up to its pairs: the answer, how much of the scratch and of the order it uses, and the table if no pairs are pending
 pub record ReadyTo (kind : Kind) (keys : List ℕ) (number : ℕ) (go : Bool) (index : Index) (need : Needs) (order : ℕ) (new table ds xs q ms : List ℕ) (r : Ready) (table' ds' xs' q' ms' : List ℕ) : Type 0 where
-  pub answer_is : r.built ≡ built_for number index
+  pub answer_is : told_index r.built ≡ built_for number index
   pub vertices_is : r.vertices ≡ cond go need.vertices 0
   pub order_is : r.order ≡ cond go need.order 0
   pub order_room : r.order ≤ order
@@ -277,7 +293,7 @@ ReadyCompact keys order table occ ds xs q ms =
     CompactReady (compact_early (length keys) (lengths_with table ds xs q order ms occ [])) keys order table occ ds xs q ms
 
 -- a build that touches nothing, with its answer
-abbrev pub untouched_of : Built → Ready
+abbrev pub untouched_of : Result Index Refusal → Ready
 untouched_of built = record { built = built; seed = 0; m = 0; pairs = 0; vertices = 0; order = 0 }
 
 -- the first v entries of every scratch buffer end as zeros

@@ -1,33 +1,38 @@
 // Both builds: the search for a seed, the assigns along the pairs, and the scratch left as zeros.
 ghost use Rattle.std.specs.Prelude.{◌≡◌, ◌≤◌, [], length, replicate};
+ghost use Rattle.bdz_base.specs.Refusal.{number_of};
 ghost use Rattle.bdz_base.specs.Sizes.{occupancy_bytes};
 ghost use Rattle.bdz_base.specs.declared.verts.Kind.TheVariants.{Assigned, Compact};
 ghost use Rattle.bdz_table.specs.Build.{assigned_table, compact_table, width_for, built_for, assigned_early, compact_early, lengths_with, BuiltAssigned, BuiltCompact};
 ghost use Rattle.bdz_table.specs.Order.{own_pairs};
+ghost use Rattle.bdz_table.specs.Told.{told_index};
 ghost use Rattle.bdz_table.specs.Values.{values_no};
-ghost use Rattle.bdz_table.specs.Steps.{Many, Shaped, RanTo, SoughtMany, Sought, cleared_if, OccupancySought, untouched_of, ReadyAssigned, ReadyCompact, Cleared};
+ghost use Rattle.bdz_table.specs.Steps.{Many, Shaped, RanTo, SoughtMany, Sought, told_run, cleared_if, OccupancySought, untouched_of, ReadyAssigned, ReadyCompact, Cleared};
 
-use super::index::{Built, Index, refused, width_for};
+use super::assign::part_of;
+use super::graph::Graph;
+use super::index::{Index, width_for};
 use super::needs::{Lengths, early_assigned, early_compact, needs};
-use super::pairs::{Pair, assign_compact, assign_g, note_order};
-use super::scratch::{zero8, zero32};
+use super::pairs::{Pair, assign_all, note_order, occupy_all};
 use super::seeds::find_seed;
 use super::seen::judge_values;
-use bdz_base::refusal::{ACCEPTED, GRAPH_DID_NOT_PEEL};
+use bdz_base::refusal::Refusal;
 use bdz_base::verts::Kind;
 
-// What a run came to: a refusal number, or 0 and the seed; and how many pairs are still to be noted and assigned.
+// What a run came to: its seed, and how many pairs are still to be noted and assigned.
 #[derive(Clone, Copy)]
-struct Ran {
-    no: u32,
+pub(crate) struct Run {
     seed: u64,
     pairs: usize,
 }
 
+// Where nothing was searched for.
+const NO_RUN: Run = Run { seed: 0, pairs: 0 };
+
 // A build before its pairs are noted: its answer, and where the pairs are assigned; how much of the scratch and of the order it uses.
 #[derive(Clone, Copy)]
 pub(crate) struct Ready {
-    pub(crate) built: Built,
+    pub(crate) built: Result<Index, Refusal>,
     pub(crate) seed: u64,
     pub(crate) m: u32,
     pub(crate) pairs: usize,
@@ -45,26 +50,20 @@ fn seek(
     xors: &mut [u32],
     queue: &mut [u32],
     marks: &mut [u8],
-) -> Ran
+) -> Result<Run, Refusal>
     requires { Many kind keys.now m table.old degrees.old xors.old queue.old marks.old }
-    ensures ran_to { RanTo kind keys.now 0 result }
-    ensures sought_many { SoughtMany kind keys.now m table.old result table.new xors.new queue.new marks.new }
+    ensures ran_to { RanTo kind keys.now 0 (told_run result) }
+    ensures sought_many { SoughtMany kind keys.now m table.old (told_run result) table.new xors.new queue.new marks.new }
 {
-    let found = find_seed(keys, m, kind, degrees, xors, queue);
-    if 256 <= found.tries {
-        return Ran {
-            no: GRAPH_DID_NOT_PEEL,
-            seed: 0,
-            pairs: 0,
-        };
-    }
-    zero32(table);
-    zero8(marks);
-    Ran {
-        no: ACCEPTED,
-        seed: found.seed,
+    let Some(seed) = find_seed(keys, m, kind, degrees, xors, queue) else {
+        return Err(Refusal::GraphDidNotPeel);
+    };
+    table.fill(0);
+    marks.fill(0);
+    Ok(Run {
+        seed,
         pairs: keys.len(),
-    }
+    })
 }
 
 // The assigned table as far as it goes without pairs, unless the values were refused.
@@ -72,43 +71,33 @@ fn work_assigned(
     keys: &[u64],
     values: &[u32],
     modulus: u32,
-    verdict: u32,
+    verdict: Result<(), Refusal>,
     m: u32,
     table: &mut [u32],
     degrees: &mut [u8],
     xors: &mut [u32],
     queue: &mut [u32],
     marks: &mut [u8],
-) -> Ran
+) -> Result<Run, Refusal>
     requires shaped { Shaped Assigned keys.now m table.old degrees.old xors.old queue.old marks.old }
     requires values_len { length values.now ≡ length keys.now }
-    ensures ran_to { RanTo Assigned keys.now verdict result }
-    ensures sought { Sought Assigned keys.now m (assigned_table keys.now values.now modulus) table.old result table.new xors.new queue.new marks.new }
+    ensures ran_to { RanTo Assigned keys.now (number_of verdict) (told_run result) }
+    ensures sought { Sought Assigned keys.now m (assigned_table keys.now values.now modulus) table.old (told_run result) table.new xors.new queue.new marks.new }
 {
-    if verdict != ACCEPTED {
-        return Ran {
-            no: verdict,
-            seed: 0,
-            pairs: 0,
-        };
-    }
+    verdict?;
     if keys.len() == 1 {
         table[0] = values[0];
-        return Ran {
-            no: ACCEPTED,
-            seed: 1,
-            pairs: 0,
-        };
+        return Ok(Run { seed: 1, pairs: 0 });
     }
     seek(keys, m, Kind::Assigned, table, degrees, xors, queue, marks)
 }
 
 // The occupancy of no vertex, unless the keys were refused.
-fn clear_occupancy(no: u32, occupancy: &mut [u8])
-    ensures { occupancy.new ≡ cleared_if «no» occupancy.old }
+fn clear_occupancy(run: Result<Run, Refusal>, occupancy: &mut [u8])
+    ensures { occupancy.new ≡ cleared_if (told_run run).no occupancy.old }
 {
-    if no == ACCEPTED {
-        zero8(occupancy);
+    if run.is_ok() {
+        occupancy.fill(0);
     }
 }
 
@@ -122,61 +111,65 @@ fn work_compact(
     xors: &mut [u32],
     queue: &mut [u32],
     marks: &mut [u8],
-) -> Ran
+) -> Result<Run, Refusal>
     requires shaped { Shaped Compact keys.now m table.old degrees.old xors.old queue.old marks.old }
     requires occupancy_len { length occupancy.old ≡ occupancy_bytes m }
-    ensures ran_to { RanTo Compact keys.now 0 result }
-    ensures sought { Sought Compact keys.now m (compact_table keys.now) table.old result table.new xors.new queue.new marks.new }
-    ensures occupancy_sought { OccupancySought keys.now m result occupancy.old occupancy.new }
+    ensures ran_to { RanTo Compact keys.now 0 (told_run result) }
+    ensures sought { Sought Compact keys.now m (compact_table keys.now) table.old (told_run result) table.new xors.new queue.new marks.new }
+    ensures occupancy_sought { OccupancySought keys.now m (told_run result) occupancy.old occupancy.new }
 {
     if keys.len() == 1 {
         table[0] = 0;
         occupancy[0] = 1;
-        return Ran {
-            no: ACCEPTED,
-            seed: 1,
-            pairs: 0,
-        };
+        return Ok(Run { seed: 1, pairs: 0 });
     }
-    let ran = seek(keys, m, Kind::Compact, table, degrees, xors, queue, marks);
-    clear_occupancy(ran.no, occupancy);
-    ran
+    let run = seek(keys, m, Kind::Compact, table, degrees, xors, queue, marks);
+    clear_occupancy(run, occupancy);
+    run
 }
 
 // The values judged, with the seen values zero before and after.
-fn judge_part(values: &[u32], modulus: u32, seen: &mut [u8]) -> u32
+fn judge_part(values: &[u32], modulus: u32, seen: &mut [u8]) -> Result<(), Refusal>
     requires { length seen.old ≡ occupancy_bytes modulus }
-    ensures judged { result ≡ values_no modulus [] values.now }
+    ensures judged { number_of result ≡ values_no modulus [] values.now }
     ensures cleared { seen.new ≡ replicate (length seen.old) 0 }
 {
-    zero8(seen);
+    seen.fill(0);
     let verdict = judge_values(values, modulus, seen);
-    zero8(seen);
+    seen.fill(0);
     verdict
 }
 
-// The answer to what a run came to.
-fn finish(kind: Kind, n: u32, m: u32, modulus: u32, no: u32, seed: u64) -> Built
-    ensures { result ≡ built_for «no» (record { kind = kind; n = n; m = m; seed = seed; modulus = modulus; width = width_for kind modulus }) }
+// The index that a run came to.
+fn finish(
+    kind: Kind,
+    n: u32,
+    m: u32,
+    modulus: u32,
+    run: Result<Run, Refusal>,
+) -> Result<Index, Refusal>
+    ensures { told_index result ≡ built_for (told_run run).no (record { kind = kind; n = n; m = m; seed = (told_run run).seed; modulus = modulus; width = width_for kind modulus }) }
 {
-    if no != 0 {
-        return refused(no);
-    }
-    Built {
-        no: 0,
-        index: Index {
-            kind,
-            n,
-            m,
-            seed,
-            modulus,
-            width: width_for(kind, modulus),
-        },
-    }
+    let seed = run?.seed;
+    Ok(Index {
+        kind,
+        n,
+        m,
+        seed,
+        modulus,
+        width: width_for(kind, modulus),
+    })
+}
+
+// What is still to be done of a run: nothing of one that was refused.
+fn left_of(run: Result<Run, Refusal>) -> Run
+    ensures { result ≡ record { seed = (told_run run).seed; pairs = (told_run run).pairs } }
+{
+    run.unwrap_or(NO_RUN)
 }
 
 // A build that touches nothing, with its answer.
-fn untouched(built: Built) -> Ready
+fn untouched(built: Result<Index, Refusal>) -> Ready
     ensures { result ≡ untouched_of built }
 {
     Ready {
@@ -213,7 +206,7 @@ fn begin_assigned(
     let bytes = need.seen as usize;
     let m = need.table as u32;
     let verdict = judge_part(values, modulus, &mut seen[..bytes]);
-    let ran = work_assigned(
+    let run = work_assigned(
         keys,
         values,
         modulus,
@@ -225,11 +218,12 @@ fn begin_assigned(
         &mut queue[..each],
         &mut marks[..each],
     );
+    let left = left_of(run);
     Ready {
-        built: finish(Kind::Assigned, n, m, modulus, ran.no, ran.seed),
-        seed: ran.seed,
+        built: finish(Kind::Assigned, n, m, modulus, run),
+        seed: left.seed,
         m,
-        pairs: ran.pairs,
+        pairs: left.pairs,
         vertices: each,
         order: need.order as usize,
     }
@@ -256,7 +250,7 @@ fn begin_compact(
     let each = need.vertices as usize;
     let bytes = need.occupancy as usize;
     let m = need.table as u32;
-    let ran = work_compact(
+    let run = work_compact(
         keys,
         m,
         &mut table[..words],
@@ -266,11 +260,12 @@ fn begin_compact(
         &mut queue[..each],
         &mut marks[..each],
     );
+    let left = left_of(run);
     Ready {
-        built: finish(Kind::Compact, n, m, n, ran.no, ran.seed),
-        seed: ran.seed,
+        built: finish(Kind::Compact, n, m, n, run),
+        seed: left.seed,
         m,
-        pairs: ran.pairs,
+        pairs: left.pairs,
         vertices: each,
         order: need.order as usize,
     }
@@ -301,12 +296,11 @@ pub(crate) fn ready_assigned(
         occupancy: 0,
         seen: seen.len(),
     };
-    let early = early_assigned(keys.len(), values.len(), modulus, lent);
-    if early != ACCEPTED {
-        return untouched(refused(early));
+    if let Err(refusal) = early_assigned(keys.len(), values.len(), modulus, lent) {
+        return untouched(Err(refusal));
     }
     if keys.len() == 0 {
-        return untouched(finish(Kind::Assigned, 0, 0, modulus, ACCEPTED, 0));
+        return untouched(finish(Kind::Assigned, 0, 0, modulus, Ok(NO_RUN)));
     }
     begin_assigned(
         keys, values, modulus, order, table, degrees, xors, queue, marks, seen,
@@ -336,12 +330,11 @@ pub(crate) fn ready_compact(
         occupancy: occupancy.len(),
         seen: 0,
     };
-    let early = early_compact(keys.len(), lent);
-    if early != ACCEPTED {
-        return untouched(refused(early));
+    if let Err(refusal) = early_compact(keys.len(), lent) {
+        return untouched(Err(refusal));
     }
     if keys.len() == 0 {
-        return untouched(finish(Kind::Compact, 0, 0, 0, ACCEPTED, 0));
+        return untouched(finish(Kind::Compact, 0, 0, 0, Ok(NO_RUN)));
     }
     begin_compact(keys, order, table, occupancy, degrees, xors, queue, marks)
 }
@@ -357,17 +350,10 @@ pub(crate) fn clear_scratch(
     requires { (vertices ≤ length degrees.old) × (vertices ≤ length xors.old) × (vertices ≤ length queue.old) × (vertices ≤ length marks.old) }
     ensures { Cleared vertices degrees.old xors.old queue.old marks.old degrees.new xors.new queue.new marks.new }
 {
-    zero8(&mut degrees[..vertices]);
-    zero32(&mut xors[..vertices]);
-    zero32(&mut queue[..vertices]);
-    zero8(&mut marks[..vertices]);
-}
-
-// The answer that a build came to.
-pub(crate) fn answer_of(ready: Ready) -> Built
-    ensures { result ≡ ready.built }
-{
-    ready.built
+    degrees[..vertices].fill(0);
+    xors[..vertices].fill(0);
+    queue[..vertices].fill(0);
+    marks[..vertices].fill(0);
 }
 
 // Every key gets its own value; the table is the lent one. 1, 2, 13, 14, 3, 4, 5.
@@ -382,29 +368,27 @@ pub fn build_assigned(
     order: &mut [Pair],
     marks: &mut [u8],
     seen: &mut [u8],
-) -> Built
-    ensures { BuiltAssigned keys.now values.now modulus table.old degrees.old xors.old queue.old order.old marks.old seen.old result table.new degrees.new xors.new queue.new order.new marks.new seen.new }
+) -> Result<Index, Refusal>
+    ensures { BuiltAssigned keys.now values.now modulus table.old degrees.old xors.old queue.old order.old marks.old seen.old (told_index result) table.new degrees.new xors.new queue.new order.new marks.new seen.new }
 {
     let lent = order.len();
     let ready = ready_assigned(
         keys, values, modulus, lent, table, degrees, xors, queue, marks, seen,
     );
     note_order(xors, queue, order, ready.pairs);
-    assign_g(
-        order,
-        ready.pairs,
+    let graph = Graph {
         keys,
-        values,
-        ready.seed,
-        ready.m,
-        modulus,
-        table,
-        marks,
-    );
+        seed: ready.seed,
+        m: ready.m,
+        kind: Kind::Assigned,
+    };
+    // a key comes to its own value
+    let value = |p: Pair| values[p.edge as usize];
+    assign_all(order, ready.pairs, graph, modulus, value, table, marks);
     clear_scratch(ready.vertices, degrees, xors, queue, marks);
     // of a cleared queue the same notes are zeros
     note_order(xors, queue, order, ready.order);
-    answer_of(ready)
+    ready.built
 }
 
 // Every key gets its own number below the count of the keys; the table and the occupancy are the lent ones. 13, 14, 5.
@@ -417,25 +401,25 @@ pub fn build_compact(
     queue: &mut [u32],
     order: &mut [Pair],
     marks: &mut [u8],
-) -> Built
-    ensures { BuiltCompact keys.now table.old occupancy.old degrees.old xors.old queue.old order.old marks.old result table.new occupancy.new degrees.new xors.new queue.new order.new marks.new }
+) -> Result<Index, Refusal>
+    ensures { BuiltCompact keys.now table.old occupancy.old degrees.old xors.old queue.old order.old marks.old (told_index result) table.new occupancy.new degrees.new xors.new queue.new order.new marks.new }
 {
     let lent = order.len();
     let ready = ready_compact(keys, lent, table, occupancy, degrees, xors, queue, marks);
     note_order(xors, queue, order, ready.pairs);
-    assign_compact(
-        order,
-        ready.pairs,
+    let graph = Graph {
         keys,
-        ready.seed,
-        ready.m,
-        table,
-        marks,
-        occupancy,
-    );
+        seed: ready.seed,
+        m: ready.m,
+        kind: Kind::Compact,
+    };
+    // a key comes to the part of its own vertex
+    let part = |p: Pair| part_of(graph.m, p.vert);
+    assign_all(order, ready.pairs, graph, 3, part, table, marks);
+    occupy_all(order, ready.pairs, ready.m, occupancy);
     clear_scratch(ready.vertices, degrees, xors, queue, marks);
     note_order(xors, queue, order, ready.order);
-    answer_of(ready)
+    ready.built
 }
 
 // The assigned build with pairs of its own, for at most 1,000 keys. 14 for more.
@@ -449,8 +433,8 @@ pub fn build_assigned_small(
     queue: &mut [u32],
     marks: &mut [u8],
     seen: &mut [u8],
-) -> Built
-    ensures { BuiltAssigned keys.now values.now modulus table.old degrees.old xors.old queue.old own_pairs marks.old seen.old result table.new degrees.new xors.new queue.new own_pairs marks.new seen.new }
+) -> Result<Index, Refusal>
+    ensures { BuiltAssigned keys.now values.now modulus table.old degrees.old xors.old queue.old own_pairs marks.old seen.old (told_index result) table.new degrees.new xors.new queue.new own_pairs marks.new seen.new }
 {
     let mut order = [Pair { edge: 0, vert: 0 }; 1000];
     build_assigned(
@@ -467,8 +451,8 @@ pub fn build_compact_small(
     xors: &mut [u32],
     queue: &mut [u32],
     marks: &mut [u8],
-) -> Built
-    ensures { BuiltCompact keys.now table.old occupancy.old degrees.old xors.old queue.old own_pairs marks.old result table.new occupancy.new degrees.new xors.new queue.new own_pairs marks.new }
+) -> Result<Index, Refusal>
+    ensures { BuiltCompact keys.now table.old occupancy.old degrees.old xors.old queue.old own_pairs marks.old (told_index result) table.new occupancy.new degrees.new xors.new queue.new own_pairs marks.new }
 {
     let mut order = [Pair { edge: 0, vert: 0 }; 1000];
     build_compact(

@@ -3,6 +3,7 @@
 
 pub mod assign;
 pub mod build;
+pub mod graph;
 pub mod index;
 pub mod lookup;
 pub mod needs;
@@ -10,7 +11,6 @@ pub mod occ;
 pub mod pairs;
 pub mod peel;
 pub mod rank;
-pub mod scratch;
 pub mod seeds;
 pub mod seen;
 pub mod view;

@@ -1,45 +1,46 @@
 // The lookup of many keys in an index whose table is lent as words.
-ghost use Rattle.std.specs.Prelude.{◌≡◌, ◌<◌, ◌≤◌, length, slice_index};
+ghost use Rattle.std.specs.Prelude.{◌≡◌, ℕ, ◌<◌, ◌≤◌, length, slice_index};
 ghost use Rattle.bdz_base.specs.Buffer.{tab, over};
+ghost use Rattle.bdz_base.specs.Refusal.{number_of};
 ghost use Rattle.bdz_base.specs.Sizes.{occupancy_bytes, super_count};
 ghost use Rattle.bdz_base.specs.Verts.{Below};
 ghost use Rattle.bdz_table.specs.Keys.{listed};
 ghost use Rattle.bdz_table.specs.Lookup.{room_no, lookup_no, sum_of, assigned_answer, compact_from, compact_answer, one_answer, few_answer, answers_of, LookedUp, many_from, finish_no, finish_of};
+ghost use Rattle.bdz_table.specs.Told.{told_answer};
 
-use super::index::{Answer, Index};
-use super::rank::fewer;
+use super::index::Index;
 use super::view::rank1;
-use bdz_base::refusal::{ACCEPTED, NO_ROOM, OCC_TRUNCATED, ZERO_MODULUS};
+use bdz_base::refusal::Refusal;
 use bdz_base::size::{occ_packed_bytes, super_count};
 use bdz_base::verts::{Kind, Verts, hash_verts};
 
-// The refusal of an index of two keys or more by the lengths of what is lent, or 0.
-fn room_no(kind: Kind, m: u32, table: usize, occ: usize, supers: usize) -> u32
-    ensures { result ≡ room_no kind m table occ supers }
+// The refusal of an index of two keys or more by the lengths of what is lent.
+fn room_no(kind: Kind, m: u32, table: usize, occ: usize, supers: usize) -> Result<(), Refusal>
+    ensures { number_of result ≡ room_no kind m table occ supers }
 {
     match kind {
         Kind::Assigned => {
             if table < m as usize {
-                return NO_ROOM;
+                return Err(Refusal::NoRoom);
             }
-            ACCEPTED
+            Ok(())
         }
         Kind::Compact => {
             if (occ as u64) < occ_packed_bytes(m) {
-                return OCC_TRUNCATED;
+                return Err(Refusal::OccTruncated);
             }
             if table < m as usize {
-                return NO_ROOM;
+                return Err(Refusal::NoRoom);
             }
             if (supers as u64) < super_count(m) {
-                return NO_ROOM;
+                return Err(Refusal::NoRoom);
             }
-            ACCEPTED
+            Ok(())
         }
     }
 }
 
-// The refusal of a lookup by the lengths of what is lent, or 0.
+// The refusal of a lookup by the lengths of what is lent.
 pub fn lookup_no(
     index: Index,
     keys: usize,
@@ -47,23 +48,23 @@ pub fn lookup_no(
     occ: usize,
     supers: usize,
     out: usize,
-) -> u32
-    ensures { result ≡ lookup_no index keys table occ supers out }
+) -> Result<(), Refusal>
+    ensures { number_of result ≡ lookup_no index keys table occ supers out }
 {
     if keys == 0 {
-        return ACCEPTED;
+        return Ok(());
     }
     if out < keys {
-        return NO_ROOM;
+        return Err(Refusal::NoRoom);
     }
     if index.n < 2 {
-        return ACCEPTED;
+        return Ok(());
     }
     if index.m == 0 {
-        return ZERO_MODULUS;
+        return Err(Refusal::ZeroModulus);
     }
     if index.modulus == 0 {
-        return ZERO_MODULUS;
+        return Err(Refusal::ZeroModulus);
     }
     let kind = index.kind;
     room_no(kind, index.m, table, occ, supers)
@@ -108,9 +109,8 @@ fn compact_finish(sum: u32, v: Verts, m: u32, n: u32, occ: &[u8], supers: &[u32]
     ensures { result ≡ compact_from n occ.now supers.now (listed v) sum }
 {
     let at = vertex_at(v, sum % 3);
-    let ranked = rank1(occ, supers, m, at);
-    let last = n - 1;
-    fewer(ranked.answer, last)
+    let rank = rank1(occ, supers, m, at).unwrap();
+    rank.min(n - 1)
 }
 
 fn compact_answer(
@@ -129,48 +129,16 @@ fn compact_answer(
     compact_finish(sum_words(table, v), v, m, n, occ, supers)
 }
 
-// The assigned answer for each key.
-fn assigned_all(keys: &[u64], seed: u64, m: u32, modulus: u32, table: &[u32], out: &mut [u32])
-    requires { (0 < m) × (0 < modulus) × (m ≤ length table.now) × (length keys.now ≤ length out.old) }
-    ensures { out.new ≡ over (tab (λ i. assigned_answer seed m modulus table.now (slice_index keys.now i)) (length keys.now)) out.old }
+// Each key's answer, into the first words of out: `of` is any numbering that the closure's answers follow.
+fn answer_each<F: Fn(u64) -> u32>(keys: &[u64], out: &mut [u32], answer: F)
+    requires callable { (i : ℕ) → i < length keys.now → F.pre answer (slice_index keys.now i) }
+    requires room { length keys.now ≤ length out.old }
+    ensures { (of : ℕ → ℕ)
+        → ((i r : ℕ) → i < length keys.now → F.post answer (slice_index keys.now i) r → r ≡ of i)
+        → out.new ≡ over (tab of (length keys.now)) out.old }
 {
-    let mut i: usize = 0;
-    while i < keys.len() {
-        out[i] = assigned_answer(keys[i], seed, m, modulus, table);
-        i += 1;
-    }
-}
-
-// The compact answer for each key.
-fn compact_all(
-    keys: &[u64],
-    seed: u64,
-    m: u32,
-    n: u32,
-    table: &[u32],
-    occ: &[u8],
-    supers: &[u32],
-    out: &mut [u32],
-)
-    requires { (0 < n) × (0 < m) × (m ≤ length table.now) × (occupancy_bytes m ≤ length occ.now) × (super_count m ≤ length supers.now) × (length keys.now ≤ length out.old) }
-    ensures { out.new ≡ over (tab (λ i. compact_answer seed m n table.now occ.now supers.now (slice_index keys.now i)) (length keys.now)) out.old }
-{
-    let mut i: usize = 0;
-    while i < keys.len() {
-        out[i] = compact_answer(keys[i], seed, m, n, table, occ, supers);
-        i += 1;
-    }
-}
-
-// The same answer for each key.
-fn same_all(keys: usize, answer: u32, out: &mut [u32])
-    requires { keys ≤ length out.old }
-    ensures { out.new ≡ over (tab (λ i. answer) keys) out.old }
-{
-    let mut i: usize = 0;
-    while i < keys {
-        out[i] = answer;
-        i += 1;
+    for (i, &key) in keys.iter().enumerate() {
+        out[i] = answer(key);
     }
 }
 
@@ -178,10 +146,7 @@ fn same_all(keys: usize, answer: u32, out: &mut [u32])
 fn first_word(table: &[u32]) -> u32
     ensures { result ≡ slice_index table.now 0 }
 {
-    if table.len() == 0 {
-        return 0;
-    }
-    table[0]
+    table.first().copied().unwrap_or(0)
 }
 
 // The answer of an index of one key.
@@ -221,16 +186,16 @@ fn answer_all(
     }
     let kind = index.kind;
     if index.n < 2 {
-        same_all(
-            keys.len(),
-            few_answer(kind, index.n, first_word(table)),
-            out,
-        );
+        out[..keys.len()].fill(few_answer(kind, index.n, first_word(table)));
         return;
     }
     match kind {
-        Kind::Assigned => assigned_all(keys, index.seed, index.m, index.modulus, table, out),
-        Kind::Compact => compact_all(keys, index.seed, index.m, index.n, table, occ, supers, out),
+        Kind::Assigned => answer_each(keys, out, |key| {
+            assigned_answer(key, index.seed, index.m, index.modulus, table)
+        }),
+        Kind::Compact => answer_each(keys, out, |key| {
+            compact_answer(key, index.seed, index.m, index.n, table, occ, supers)
+        }),
     }
 }
 
@@ -242,22 +207,19 @@ pub fn index_batch(
     occ: &[u8],
     supers: &[u32],
     out: &mut [u32],
-) -> u32
-    ensures { LookedUp index keys.now table.now occ.now supers.now out.old result out.new }
+) -> Result<(), Refusal>
+    ensures { LookedUp index keys.now table.now occ.now supers.now out.old (number_of result) out.new }
 {
-    let no = lookup_no(
+    lookup_no(
         index,
         keys.len(),
         table.len(),
         occ.len(),
         supers.len(),
         out.len(),
-    );
-    if no != ACCEPTED {
-        return no;
-    }
+    )?;
     answer_all(index, keys, table, occ, supers, out);
-    ACCEPTED
+    Ok(())
 }
 
 // The answer of an index of two keys or more from the sum of a key's words.
@@ -284,23 +246,14 @@ pub fn finish_index(
     c: u32,
     occ: &[u8],
     supers: &[u32],
-) -> Answer
-    ensures { result ≡ finish_of index key a b c occ.now supers.now }
+) -> Result<u32, Refusal>
+    ensures { told_answer result ≡ finish_of index key a b c occ.now supers.now }
 {
     let kind = index.kind;
-    let no = lookup_no(index, 1, index.m as usize, occ.len(), supers.len(), 1);
-    if no != ACCEPTED {
-        return Answer { no, answer: 0 };
-    }
+    lookup_no(index, 1, index.m as usize, occ.len(), supers.len(), 1)?;
     if index.n < 2 {
-        return Answer {
-            no: ACCEPTED,
-            answer: few_answer(kind, index.n, a),
-        };
+        return Ok(few_answer(kind, index.n, a));
     }
     let sum = std::num::wrapping_add_u32(std::num::wrapping_add_u32(a, b), c);
-    Answer {
-        no: ACCEPTED,
-        answer: finish_many(index, key, sum, occ, supers),
-    }
+    Ok(finish_many(index, key, sum, occ, supers))
 }

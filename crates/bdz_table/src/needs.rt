@@ -1,9 +1,10 @@
 // What a build has to be lent, and the checks before anything is touched.
 ghost use Rattle.std.specs.Prelude.{◌≡◌, ◌^◌, ◌≤◌, nat_lt};
+ghost use Rattle.bdz_base.specs.Refusal.{number_of};
 ghost use Rattle.bdz_table.specs.Build.{size_for, vertices_for, if_many, occupancy_need, seen_need, needs_of, lacks_room, assigned_early, compact_early};
 
 use super::index::Needs;
-use bdz_base::refusal::{ACCEPTED, ASSIGNED_LEN, ASSIGNED_MODULUS, NO_ROOM, TOO_LARGE};
+use bdz_base::refusal::Refusal;
 use bdz_base::size::{compact_vertex_count, occ_packed_bytes, vertex_count};
 use bdz_base::verts::Kind;
 
@@ -110,42 +111,42 @@ fn lacks_room(need: Needs, lent: Lengths) -> bool
 }
 
 // The checks of an assigned build before anything is touched.
-pub fn early_assigned(n: usize, values: usize, modulus: u32, lent: Lengths) -> u32
-    ensures { result ≡ assigned_early n values modulus lent }
+pub fn early_assigned(n: usize, values: usize, modulus: u32, lent: Lengths) -> Result<(), Refusal>
+    ensures { number_of result ≡ assigned_early n values modulus lent }
 {
     if n != values {
-        return ASSIGNED_LEN;
+        return Err(Refusal::AssignedLen);
     }
     if n == 0 {
-        return ACCEPTED;
+        return Ok(());
     }
     if modulus == 0 {
-        return ASSIGNED_MODULUS;
+        return Err(Refusal::AssignedModulus);
     }
     if 0x4000_0000 < n {
-        return TOO_LARGE;
+        return Err(Refusal::TooLarge);
     }
     if 0x4000_0000 < modulus {
-        return TOO_LARGE;
+        return Err(Refusal::TooLarge);
     }
     if lacks_room(needs(Kind::Assigned, n as u32, modulus), lent) {
-        return NO_ROOM;
+        return Err(Refusal::NoRoom);
     }
-    ACCEPTED
+    Ok(())
 }
 
 // The same of a compact build.
-pub fn early_compact(n: usize, lent: Lengths) -> u32
-    ensures { result ≡ compact_early n lent }
+pub fn early_compact(n: usize, lent: Lengths) -> Result<(), Refusal>
+    ensures { number_of result ≡ compact_early n lent }
 {
     if n == 0 {
-        return ACCEPTED;
+        return Ok(());
     }
     if 0x4000_0000 < n {
-        return TOO_LARGE;
+        return Err(Refusal::TooLarge);
     }
     if lacks_room(needs(Kind::Compact, n as u32, n as u32), lent) {
-        return NO_ROOM;
+        return Err(Refusal::NoRoom);
     }
-    ACCEPTED
+    Ok(())
 }

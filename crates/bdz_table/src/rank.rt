@@ -2,11 +2,12 @@
 ghost use Rattle.std.specs.Prelude.{◌≡◌, ◌+◌, ◌-◌, ◌*◌, ◌/◌, ◌%◌, ◌^◌, ◌<◌, ◌≤◌, min, length};
 ghost use Rattle.std.specs.Int.Count.{ones_in};
 ghost use Rattle.bdz_base.specs.Buffer.{over};
+ghost use Rattle.bdz_base.specs.Refusal.{number_of};
 ghost use Rattle.bdz_base.specs.Sizes.{super_count};
 ghost use Rattle.bdz_table.specs.Rank.{ones_between, super_counts, supers_no, SuperCounted, rank_with, ranked_of};
+ghost use Rattle.bdz_table.specs.Told.{told_answer};
 
-use super::index::Answer;
-use bdz_base::refusal::{ACCEPTED, NO_ROOM, OCC_TRUNCATED};
+use bdz_base::refusal::Refusal;
 use bdz_base::size::{occ_packed_bytes, super_count};
 
 // The ones of the bits of a byte from `bit` on, as many as `take`.
@@ -23,17 +24,14 @@ fn bits_taken(b: u64, end: u64) -> u64
     requires { b < end }
     ensures { result ≡ min (8 - b % 8) (end - b) }
 {
-    let of_byte = 8 - b % 8;
-    let left = end - b;
-    if of_byte < left { of_byte } else { left }
+    (8 - b % 8).min(end - b)
 }
 
-// hi, or the end of the bytes where that comes before it.
+// hi, or the end of the bytes where that comes before it. Saturating, as bytes * 8 can be more than a u64 holds.
 fn end_within(bytes: usize, hi: u64) -> u64
     ensures { result ≡ min hi (bytes * 8) }
 {
-    let len = bytes as u64;
-    if hi / 8 < len { hi } else { len * 8 }
+    hi.min((bytes as u64).saturating_mul(8))
 }
 
 // The ones of an occupancy from lo on, below hi, modulo 2^32. A byte that is not there has none.
@@ -43,6 +41,7 @@ pub fn popcount_bits(occ: &[u8], lo: u64, hi: u64) -> u32
     let end = end_within(occ.len(), hi);
     let mut n: u32 = 0;
     let mut b = lo;
+    // a `while`, as the first and the last turn can take less than a byte
     while b < end {
         let take = bits_taken(b, end);
         let at = (b / 8) as usize;
@@ -53,17 +52,17 @@ pub fn popcount_bits(occ: &[u8], lo: u64, hi: u64) -> u32
     n
 }
 
-// The refusal of super counts by the lengths of what is lent, or 0.
-pub(crate) fn supers_no(m: u32, occ: usize, supers: usize) -> u32
-    ensures { result ≡ supers_no m occ supers }
+// The refusal of super counts by the lengths of what is lent.
+pub(crate) fn supers_no(m: u32, occ: usize, supers: usize) -> Result<(), Refusal>
+    ensures { number_of result ≡ supers_no m occ supers }
 {
     if (occ as u64) < occ_packed_bytes(m) {
-        return OCC_TRUNCATED;
+        return Err(Refusal::OccTruncated);
     }
     if (supers as u64) < super_count(m) {
-        return NO_ROOM;
+        return Err(Refusal::NoRoom);
     }
-    ACCEPTED
+    Ok(())
 }
 
 // The end of a block of 512 bits, or m where that comes before it.
@@ -71,9 +70,7 @@ fn block_end(i: u64, m: u32) -> u64
     requires { i < super_count m }
     ensures { result ≡ min ((i + 1) * 512) m }
 {
-    let end = (i + 1) * 512;
-    let most = m as u64;
-    if end < most { end } else { most }
+    ((i + 1) * 512).min(m as u64)
 }
 
 // The super counts where there is room for them.
@@ -83,25 +80,19 @@ fn fill_supers(m: u32, occ: &[u8], supers: &mut [u32])
 {
     let count = super_count(m);
     let mut acc: u32 = 0;
-    let mut i: u64 = 0;
-    while i < count {
-        let at = i as usize;
-        supers[at] = acc;
+    for i in 0..count {
+        supers[i as usize] = acc;
         acc += popcount_bits(occ, i * 512, block_end(i, m));
-        i += 1;
     }
 }
 
 // The super counts of an occupancy of m bits. 12, 14.
-pub fn supers_from_occ_bytes(m: u32, occ: &[u8], supers: &mut [u32]) -> u32
-    ensures { SuperCounted m occ.now supers.old result supers.new }
+pub fn supers_from_occ_bytes(m: u32, occ: &[u8], supers: &mut [u32]) -> Result<(), Refusal>
+    ensures { SuperCounted m occ.now supers.old (number_of result) supers.new }
 {
-    let no = supers_no(m, occ.len(), supers.len());
-    if no != ACCEPTED {
-        return no;
-    }
+    supers_no(m, occ.len(), supers.len())?;
     fill_supers(m, occ, supers);
-    ACCEPTED
+    Ok(())
 }
 
 // The ones before the block of v, as lent, and those of the block below v.
@@ -116,22 +107,10 @@ fn rank_below(occ: &[u8], supers: &[u32], v: u32) -> u32
     std::num::wrapping_add_u32(supers[at], ones)
 }
 
-pub(crate) fn fewer(a: u32, b: u32) -> u32
-    ensures { result ≡ min a b }
-{
-    if a < b { a } else { b }
-}
-
 // The rank of v by the lent super counts. A vertex past m has the rank of m. 12, 14.
-pub fn rank_at(occ: &[u8], supers: &[u32], m: u32, v: u32) -> Answer
-    ensures { result ≡ ranked_of m occ.now supers.now v }
+pub fn rank_at(occ: &[u8], supers: &[u32], m: u32, v: u32) -> Result<u32, Refusal>
+    ensures { told_answer result ≡ ranked_of m occ.now supers.now v }
 {
-    let no = supers_no(m, occ.len(), supers.len());
-    if no != ACCEPTED {
-        return Answer { no, answer: 0 };
-    }
-    Answer {
-        no: ACCEPTED,
-        answer: rank_below(occ, supers, fewer(v, m)),
-    }
+    supers_no(m, occ.len(), supers.len())?;
+    Ok(rank_below(occ, supers, v.min(m)))
 }

@@ -1,9 +1,10 @@
 // A rank view: it refers to a lent occupancy and its lent super counts.
 ghost use Rattle.std.specs.Prelude.{◌≡◌};
 ghost use Rattle.bdz_table.specs.Rank.{ranked_of};
+ghost use Rattle.bdz_table.specs.Told.{told_answer};
 
-use super::index::Answer;
 use super::rank::rank_at;
+use bdz_base::refusal::Refusal;
 
 #[derive(Clone, Copy)]
 pub struct RankView<'a, 'b> {
@@ -20,16 +21,16 @@ pub fn new<'a, 'b>(occ: &'a [u8], supers: &'b [u32], m: u32) -> RankView<'a, 'b>
 
 impl<'a, 'b> RankView<'a, 'b> {
     // The rank of v. 12, 14.
-    pub fn rank(self, v: u32) -> Answer
-        ensures { result ≡ ranked_of self.entry.m self.entry.occ.now self.entry.supers.now v }
+    pub fn rank(self, v: u32) -> Result<u32, Refusal>
+        ensures { told_answer result ≡ ranked_of self.entry.m self.entry.occ.now self.entry.supers.now v }
     {
         rank_at(self.occ, self.supers, self.m, v)
     }
 }
 
 // The rank of v, through a view of what is lent. 12, 14.
-pub fn rank1(occ: &[u8], supers: &[u32], m: u32, v: u32) -> Answer
-    ensures { result ≡ ranked_of m occ.now supers.now v }
+pub fn rank1(occ: &[u8], supers: &[u32], m: u32, v: u32) -> Result<u32, Refusal>
+    ensures { told_answer result ≡ ranked_of m occ.now supers.now v }
 {
     new(occ, supers, m).rank(v)
 }

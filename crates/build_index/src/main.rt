@@ -4,38 +4,19 @@
 ghost use Rattle.std.specs.Prelude.{◌≡◌, ◌<◌, ◌≤◌, length, true, IfOk};
 ghost use Rattle.std.specs.Str.{IsAscii};
 
-use bdz_base::refusal::{ACCEPTED, NO_ROOM};
+use bdz_base::refusal::Refusal;
 use bdz_base::verts::Kind;
 use bdz_base::words::le64;
 use bdz_image::size::image_len;
-use bdz_image::text::refusal_text;
 use bdz_image::write::write_image;
-use bdz_list::list::{Listed, read_list};
+use bdz_list::list::{KeyList, read_list};
 use bdz_table::build::{build_assigned_small, build_compact_small};
-use bdz_table::index::Built;
+use bdz_table::index::Index;
 use std::fs::{File, OpenFile};
 use std::io::{Read, Write};
 use std::random::RandomSource;
 use std::rt::Files;
 use std::{fs, io, str};
-
-fn print_some(rt: &impl Print, bytes: &[u8; 18], len: usize) -> io::Result<()> {
-    let all: &[u8] = bytes;
-    if len <= all.len() {
-        rt.write_all(&all[0..len])?;
-    }
-    Ok(())
-}
-
-// One line, as "refused 8 bad magic".
-fn refuse(rt: &impl Print, no: u32) -> io::Result<()> {
-    let text = refusal_text(no);
-    rt.write_all(b"refused ")?;
-    rt.print(no)?;
-    rt.write_all(b" ")?;
-    print_some(rt, &text.bytes, text.len)?;
-    rt.write_all(b"\n")
-}
 
 // Tells standard error what the system said of a file, as "keys.lst: Permission denied": its words alone, without the
 // number that std puts behind them. Where standard error takes nothing, nobody is told.
@@ -56,6 +37,7 @@ fn read_full(file: &mut impl Read, out: &mut [u8]) -> (usize, io::Result<()>)
     ensures { result.0 ≤ length out.new }
 {
     let mut done: usize = 0;
+    // a read gives as many bytes as it likes, so that there is no range to go over
     while done < out.len() {
         match file.read(&mut out[done..]) {
             Ok(0) => return (done, Ok(())),
@@ -136,7 +118,8 @@ fn digit(number: u64) -> u8
     }
 }
 
-// The name of a new file: a number in hexadecimal, in 16 digits.
+// The name of a new file: a number in hexadecimal, in 16 digits. By hand, as of what `write!` leaves in a slice it is not
+// promised that it is text.
 fn name_of(number: u64) -> [u8; 30]
     ensures { IsAscii result }
 {
@@ -228,69 +211,45 @@ fn keep(rt: &(impl Files + RandomSource + Eprint), bytes: &[u8], room: &mut [u8]
     }
 }
 
-fn main(rt: HostRuntime) -> io::Result<()> {
-    let mut list = [0u8; 14007];
-    let n = read_file(&rt, "keys.lst", &mut list);
+// The image of a list's index, in the front of the lent bytes: how long it is.
+fn image_of(list: &[u8], image: &mut [u8]) -> Result<usize, Refusal>
+    ensures { IfOk result (λ n. n ≤ length image.new) }
+{
     let mut keys = [0u64; 1000];
     let mut values = [0u32; 1000];
-    let listed = read_list(&list[0..n], &mut keys, &mut values);
-    if listed.no != ACCEPTED {
-        return refuse(&rt, listed.no);
-    }
-    build(&rt, listed, &keys, &values)
-}
-
-// The keys and values of a list, without what stands behind them.
-fn build(
-    rt: &(impl Files + RandomSource + Print + Eprint),
-    listed: Listed,
-    keys: &[u64; 1000],
-    values: &[u32; 1000],
-) -> io::Result<()> {
-    let all: &[u64] = keys;
-    let every: &[u32] = values;
-    let count = listed.count as usize;
-    if all.len() < count {
-        return refuse(rt, NO_ROOM);
-    }
-    if every.len() < count {
-        return refuse(rt, NO_ROOM);
-    }
-    let kind = listed.kind;
+    let list = read_list(list, &mut keys, &mut values)?;
     let mut table = [0u32; 2048];
     let mut occupancy = [0u8; 256];
-    let built = build_kind(
-        kind,
-        listed.modulus,
-        &all[0..count],
-        &every[0..count],
-        &mut table,
-        &mut occupancy,
-    );
-    if built.no != ACCEPTED {
-        return refuse(rt, built.no);
+    let index = build(list, &keys, &values, &mut table, &mut occupancy)?;
+    write_image(index, &table, &occupancy, image)?;
+    let len = image_len(index) as usize;
+    if image.len() < len {
+        return Err(Refusal::NoRoom);
     }
-    write(rt, built, &table, &occupancy)
+    Ok(len)
 }
 
-fn build_kind(
-    kind: Kind,
-    modulus: u32,
-    keys: &[u64],
-    values: &[u32],
+// The build of a list's kind, from its keys and values without what stands behind them.
+fn build(
+    list: KeyList,
+    keys: &[u64; 1000],
+    values: &[u32; 1000],
     table: &mut [u32],
     occupancy: &mut [u8],
-) -> Built {
+) -> Result<Index, Refusal> {
+    let count = list.count as usize;
+    let keys = keys.get(..count).ok_or(Refusal::NoRoom)?;
+    let values = values.get(..count).ok_or(Refusal::NoRoom)?;
     let mut degrees = [0u8; 2048];
     let mut xors = [0u32; 2048];
     let mut queue = [0u32; 2048];
     let mut marks = [0u8; 2048];
     let mut seen = [0u8; 8192];
-    match kind {
+    match list.kind {
         Kind::Assigned => build_assigned_small(
             keys,
             values,
-            modulus,
+            list.modulus,
             table,
             &mut degrees,
             &mut xors,
@@ -310,23 +269,17 @@ fn build_kind(
     }
 }
 
-fn write(
-    rt: &(impl Files + RandomSource + Print + Eprint),
-    built: Built,
-    table: &[u32],
-    occupancy: &[u8],
-) -> io::Result<()> {
+fn main(rt: HostRuntime) -> io::Result<()> {
+    let mut list = [0u8; 14007];
+    let n = read_file(&rt, "keys.lst", &mut list);
     let mut image = [0u8; 8192];
-    let no = write_image(built.index, table, occupancy, &mut image);
-    if no != ACCEPTED {
-        return refuse(rt, no);
+    match image_of(&list[0..n], &mut image) {
+        Ok(len) => {
+            let mut room = [0u8; 8193];
+            keep(&rt, &image[0..len], &mut room);
+            Ok(())
+        }
+        // one line, as "refused 8 bad magic"
+        Err(refusal) => println!(rt; "refused {refusal}"),
     }
-    let len = image_len(built.index) as usize;
-    let view: &[u8] = &image;
-    if view.len() < len {
-        return refuse(rt, NO_ROOM);
-    }
-    let mut room = [0u8; 8193];
-    keep(rt, &view[0..len], &mut room);
-    Ok(())
 }

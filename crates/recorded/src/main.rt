@@ -8,6 +8,7 @@ mod lines;
 ghost use Rattle.std.specs.Prelude.{◌≡◌, ◌<◌, ◌≤◌, length, IfSome};
 
 use bdz_base::mix::splitmix64;
+use bdz_base::refusal::Refusal;
 use bdz_base::verts::Kind;
 use bdz_image::open::{open_compact, open_packed};
 use bdz_image::size::image_len;
@@ -61,7 +62,10 @@ fn finding_of(line: &[u8]) -> Finding {
     if !lines::is_record(line) {
         return Finding::NoRecord;
     }
-    if judge::agrees(lines::read_record(line)) {
+    let Some(record) = lines::read_record(line) else {
+        return Finding::Different;
+    };
+    if judge::agrees(&record) {
         return Finding::Same;
     }
     Finding::Different
@@ -126,6 +130,7 @@ fn replay_text(rt: &impl Print, name: &str, text: &[u8]) -> io::Result<()> {
         records: 0,
         same: 0,
     };
+    // lines are of different lengths, and each is counted with its number
     while tally.at < text.len() {
         let after = replay_line(text, tally);
         if is_different(tally, after) {
@@ -141,6 +146,7 @@ fn read_full(file: &mut impl Read, out: &mut [u8]) -> usize
     ensures { result ≤ length out.new }
 {
     let mut done: usize = 0;
+    // a read gives as many bytes as it likes, so that there is no range to go over
     while done < out.len() {
         match file.read(&mut out[done..]) {
             Ok(0) => return done,
@@ -172,24 +178,27 @@ fn replay_file(rt: &(impl Files + Print), name: &str) -> io::Result<()> {
 
 // Document 01's "Numbers to hold it to": the rows that run. What each must answer is written here, from document 01.
 
-// Writes the image of compact key 7, and answers its length; 0 where a call refused.
-fn compact_image(image: &mut [u8]) -> u64 {
+// The number that a call answers: 0 means accepted.
+fn number_of<T: Copy>(answer: Result<T, Refusal>) -> u32 {
+    match answer {
+        Ok(_) => 0,
+        Err(refusal) => u32::from(refusal),
+    }
+}
+
+// Writes the image of compact key 7, and answers its length.
+fn compact_image(image: &mut [u8]) -> Result<u64, Refusal> {
     let mut table = [0u32; 1];
     let mut occ = [0u8; 1];
     let mut bytes = [0u8; 1];
     let mut words = [0u32; 1];
     let mut queue = [0u32; 1];
     let mut marks = [0u8; 1];
-    let built = build_compact_small(
+    let index = build_compact_small(
         &[7u64; 1], &mut table, &mut occ, &mut bytes, &mut words, &mut queue, &mut marks,
-    );
-    if built.no != 0 {
-        return 0;
-    }
-    if write_image(built.index, &table, &occ, image) != 0 {
-        return 0;
-    }
-    image_len(built.index)
+    )?;
+    write_image(index, &table, &occ, image)?;
+    Ok(image_len(index))
 }
 
 // The number that a build of key 7 with value 5 is refused by, at most one byte being lent for the seen values.
@@ -199,11 +208,10 @@ fn assigned_no(modulus: u32, table: &mut [u32]) -> u32 {
     let mut queue = [0u32; 1];
     let mut marks = [0u8; 1];
     let mut seen = [0u8; 1];
-    build_assigned_small(
+    number_of(build_assigned_small(
         &[7u64; 1], &[5u32; 1], modulus, table, &mut bytes, &mut words, &mut queue, &mut marks,
         &mut seen,
-    )
-    .no
+    ))
 }
 
 // The number that opening the first bytes of an image answers.
@@ -212,15 +220,15 @@ fn opened(kind: Kind, image: &[u8], len: usize) -> u32 {
         return 99;
     }
     match kind {
-        Kind::Assigned => open_packed(&image[0..len], len as u64).no,
-        Kind::Compact => open_compact(&image[0..len], len as u64).no,
+        Kind::Assigned => number_of(open_packed(&image[0..len], len as u64)),
+        Kind::Compact => number_of(open_compact(&image[0..len], len as u64)),
     }
 }
 
 // "One compact key: 34 bytes, the last two 00 01."
 fn one_compact_key() -> bool {
     let mut image = [255u8; 35];
-    if compact_image(&mut image) != 34 {
+    if compact_image(&mut image) != Ok(34) {
         return false;
     }
     if image[32] != 0 {
@@ -235,7 +243,7 @@ fn one_compact_key() -> bool {
 // "Lengths 0, 31, 32 and one short", of a compact image of 34 bytes.
 fn compact_lengths() -> bool {
     let mut image = [0u8; 34];
-    if compact_image(&mut image) != 34 {
+    if compact_image(&mut image) != Ok(34) {
         return false;
     }
     if opened(Kind::Compact, &image, 0) != 7 {
@@ -282,7 +290,7 @@ fn largest_modulus() -> bool {
 // The super counts of m ones are these; a third one that is not needed is left as it was.
 fn counts_are(m: u32, second: u32, third: u32) -> bool {
     let mut supers = [9u32; 3];
-    if supers_from_occ_bytes(m, &[255u8; 65], &mut supers) != 0 {
+    if number_of(supers_from_occ_bytes(m, &[255u8; 65], &mut supers)) != 0 {
         return false;
     }
     if supers[0] != 0 {
@@ -306,23 +314,20 @@ fn super_counts() -> bool {
         return false;
     }
     let mut few = [9u32; 2];
-    supers_from_occ_bytes(513, &[255u8; 65], &mut few) == 14
+    number_of(supers_from_occ_bytes(513, &[255u8; 65], &mut few)) == 14
 }
 
 // Whether the keys of a compact list are built, and with the first seed or not, as is said.
 fn first_seed(list: &[u8], first: bool) -> bool {
     let mut keys = [0u64; 1000];
     let mut values = [0u32; 1000];
-    let listed = read_list(list, &mut keys, &mut values);
-    if listed.no != 0 {
+    let Ok(listed) = read_list(list, &mut keys, &mut values) else {
         return false;
+    };
+    match keys.get(..listed.count as usize) {
+        Some(keys) => seed_is_first(keys, first),
+        None => false,
     }
-    let all: &[u64] = &keys;
-    let count = listed.count as usize;
-    if all.len() < count {
-        return false;
-    }
-    seed_is_first(&all[0..count], first)
 }
 
 fn seed_is_first(keys: &[u64], first: bool) -> bool {
@@ -335,10 +340,10 @@ fn seed_is_first(keys: &[u64], first: bool) -> bool {
     let built = build_compact_small(
         keys, &mut table, &mut occ, &mut bytes, &mut words, &mut queue, &mut marks,
     );
-    if built.no != 0 {
-        return false;
+    match built {
+        Ok(index) => (index.seed == splitmix64(0x9e37_79b9_7f4a_7c15).seed) == first,
+        Err(_) => false,
     }
-    (built.index.seed == splitmix64(0x9e37_79b9_7f4a_7c15).seed) == first
 }
 
 // Writes what a row of document 01 is found to be.

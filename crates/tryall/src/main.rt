@@ -4,40 +4,24 @@
 
 ghost use Rattle.std.specs.Prelude.{◌≤◌, length, IfOk};
 
-use bdz_base::refusal::{ACCEPTED, G_LENGTH, NO_ROOM};
+use bdz_base::refusal::Refusal;
 use bdz_base::verts::Kind;
 use bdz_image::feed::{feed_ask, feed_page, feed_start};
 use bdz_image::open::{open_compact, open_packed};
 use bdz_image::page::g_page_need;
 use bdz_image::parts::{body_off, end_off, occ_off};
-use bdz_image::text::refusal_text;
-use bdz_list::list::{Listed, read_list};
+use bdz_list::list::read_list;
 use bdz_list::tally::{first_holders, same_values};
-use bdz_table::index::{Built, Index};
+use bdz_table::index::Index;
 use bdz_table::rank::supers_from_occ_bytes;
 use std::fs::File;
 use std::io::{Read, Seek, SeekFrom, Write};
 use std::rt::Files;
 use std::{io, str};
 
-fn print_some(rt: &impl Print, bytes: &[u8; 18], len: usize) -> io::Result<()> {
-    let all: &[u8] = bytes;
-    if len <= all.len() {
-        rt.write_all(&all[0..len])?;
-    }
-    Ok(())
-}
-
-// One line, as "refused 8 bad magic".
-fn refuse(rt: &impl Print, no: u32) -> io::Result<()> {
-    let text = refusal_text(no);
-    rt.write_all(b"refused ")?;
-    rt.print(no)?;
-    rt.write_all(b" ")?;
-    print_some(rt, &text.bytes, text.len)?;
-    rt.write_all(b"\n")
-}
-
+// What follows up to `read_full` stands in build_index too: a library's public function has a promise that leaves one
+// answer, which nothing that reads a file can give.
+//
 // Tells standard error what the system said of a file, as "keys.lst: Permission denied": its words alone, without the
 // number that std puts behind them. Where standard error takes nothing, nobody is told.
 fn tell(rt: &impl Eprint, path: &str, error: &io::Error) {
@@ -57,6 +41,7 @@ fn read_full(file: &mut impl Read, out: &mut [u8]) -> (usize, io::Result<()>)
     ensures { result.0 ≤ length out.new }
 {
     let mut done: usize = 0;
+    // a read gives as many bytes as it likes, so that there is no range to go over
     while done < out.len() {
         match file.read(&mut out[done..]) {
             Ok(0) => return (done, Ok(())),
@@ -85,7 +70,7 @@ fn read_open<F: Read + Seek>(file: &mut F, out: &mut [u8]) -> io::Result<Held>
         let end = file.seek(SeekFrom::End(0)).unwrap_or(0);
         return Ok(Held {
             read: n,
-            len: larger(n as u64, end),
+            len: end.max(n as u64),
         });
     }
     if file.read(&mut out[n..])? != 0 {
@@ -119,10 +104,6 @@ fn read_file(rt: &(impl Files + Eprint), path: &str, out: &mut [u8]) -> Held
     }
 }
 
-fn larger(a: u64, b: u64) -> u64 {
-    if a < b { b } else { a }
-}
-
 fn say(rt: &impl Print, what: &[u8], number: u64) -> io::Result<()> {
     rt.write_all(what)?;
     rt.print(number)
@@ -149,7 +130,7 @@ fn say_keys(rt: &impl Print, keys: u64, same: u64) -> io::Result<()> {
     rt.write_all(b"\n")
 }
 
-// The listed pages, from the file; the number of the first that is refused, or 0.
+// The listed pages, from the file, up to the first that is refused.
 fn feed_all(
     index: Index,
     keys: u64,
@@ -157,14 +138,11 @@ fn feed_all(
     pages: &[u32],
     order: &[u64],
     slots: &mut [u64],
-) -> u32 {
+) -> Result<(), Refusal> {
     for page in pages {
-        let no = feed_one(index, keys, table, *page, order, slots);
-        if no != ACCEPTED {
-            return no;
-        }
+        feed_one(index, keys, table, *page, order, slots)?;
     }
-    ACCEPTED
+    Ok(())
 }
 
 fn feed_one(
@@ -174,18 +152,16 @@ fn feed_one(
     page: u32,
     order: &[u64],
     slots: &mut [u64],
-) -> u32 {
+) -> Result<(), Refusal> {
     let start = page as u64 * 4096;
-    let need = g_page_need(table.len() as u64, page);
-    if start + need <= table.len() as u64 {
-        let from = start as usize;
-        let to = (start + need) as usize;
-        return feed_page(index, keys, page, &table[from..to], order, slots);
-    }
-    NO_ROOM
+    let end = start + g_page_need(table.len() as u64, page);
+    let bytes = table
+        .get(start as usize..end as usize)
+        .ok_or(Refusal::NoRoom)?;
+    feed_page(index, keys, page, bytes, order, slots)
 }
 
-// The answer for each key; the number of the first that is refused, or 0.
+// The answer for each key, up to the first that is refused.
 fn ask_all(
     index: Index,
     keys: &[u64],
@@ -193,18 +169,15 @@ fn ask_all(
     supers: &[u32],
     slots: &[u64],
     answers: &mut [u32],
-) -> u32 {
-    for i in 0..keys.len() {
-        let asked = feed_ask(index, keys.len() as u64, keys, i as u64, occ, supers, slots);
-        if asked.no != ACCEPTED {
-            return asked.no;
-        }
-        if answers.len() <= i {
-            return NO_ROOM;
-        }
-        answers[i] = asked.answer;
+) -> Result<(), Refusal> {
+    let count = keys.len() as u64;
+    if (answers.len() as u64) < count {
+        return Err(Refusal::NoRoom);
     }
-    ACCEPTED
+    for (answer, position) in answers.iter_mut().zip(0..count) {
+        *answer = feed_ask(index, count, keys, position, occ, supers, slots)?;
+    }
+    Ok(())
 }
 
 // A feed over the table's bytes, from its start to the last answer.
@@ -215,34 +188,23 @@ fn answer_all(
     occ: &[u8],
     supers: &[u32],
     answers: &mut [u32],
-) -> u32 {
+) -> Result<(), Refusal> {
     let mut order = [0u64; 3000];
     let mut slots = [0u64; 3000];
     let mut pages = [0u32; 6000];
-    let feed = feed_start(index, keys, occ, &mut order, &mut slots, &mut pages);
-    if feed.no != ACCEPTED {
-        return feed.no;
-    }
-    let all: &[u32] = &pages;
-    let count = feed.pages as usize;
-    if all.len() < count {
-        return NO_ROOM;
-    }
-    let no = feed_all(index, feed.keys, table, &all[0..count], &order, &mut slots);
-    if no != ACCEPTED {
-        return no;
-    }
+    let feed = feed_start(index, keys, occ, &mut order, &mut slots, &mut pages)?;
+    let listed = pages.get(..feed.pages as usize).ok_or(Refusal::NoRoom)?;
+    feed_all(index, feed.keys, table, listed, &order, &mut slots)?;
     ask_all(index, keys, occ, supers, &slots, answers)
 }
 
 // How many answers are right.
-fn right(index: Index, values: &[u32], answers: &[u32]) -> u64 {
-    let kind = index.kind;
-    match kind {
-        Kind::Assigned => same_values(values, answers),
+fn right(index: Index, values: &[u32], answers: &[u32]) -> Result<u64, Refusal> {
+    match index.kind {
+        Kind::Assigned => Ok(same_values(values, answers)),
         Kind::Compact => {
             let mut seen = [0u8; 8193];
-            first_holders(above_answers(index.n), answers, &mut seen).count
+            first_holders(above_answers(index.n), answers, &mut seen)
         }
     }
 }
@@ -250,124 +212,76 @@ fn right(index: Index, values: &[u32], answers: &[u32]) -> u64 {
 // A number that every answer is below: an answer is at most m, so past that n says nothing, and in an index of no keys
 // it is 0.
 fn above_answers(n: u32) -> u32 {
-    if n == 0 {
-        return 1;
-    }
-    if n < 65537 {
-        return n;
-    }
-    65537
+    n.clamp(1, 65537)
 }
 
 // The super counts of a compact image's own occupancy; an assigned one has none.
-fn count_supers(kind: Kind, m: u32, occ: &[u8], supers: &mut [u32]) -> u32 {
+fn count_supers(kind: Kind, m: u32, occ: &[u8], supers: &mut [u32]) -> Result<(), Refusal> {
     match kind {
-        Kind::Assigned => ACCEPTED,
+        Kind::Assigned => Ok(()),
         Kind::Compact => supers_from_occ_bytes(m, occ, supers),
     }
 }
 
-// Every key on an opened image, whose parts bdz_image names. That they lie within the file is proved of every image
-// that opens.
-fn try_index(
-    rt: &impl Print,
-    index: Index,
-    keys: &[u64],
-    values: &[u32],
-    file: &[u8],
-) -> io::Result<()> {
+// Every key on an opened image, whose parts bdz_image names: how many answers are right. That the parts lie within the
+// file is proved of every image that opens.
+fn try_index(index: Index, keys: &[u64], values: &[u32], file: &[u8]) -> Result<u64, Refusal> {
     if 65536 < index.m {
-        return refuse(rt, NO_ROOM);
+        return Err(Refusal::NoRoom);
     }
     let start = body_off(index) as usize;
     let middle = occ_off(index) as usize;
     let end = end_off(index) as usize;
-    if middle < start {
-        return refuse(rt, G_LENGTH);
-    }
-    if end < middle {
-        return refuse(rt, G_LENGTH);
-    }
-    if file.len() < end {
-        return refuse(rt, G_LENGTH);
-    }
-    try_parts(
-        rt,
-        index,
-        keys,
-        values,
-        &file[start..middle],
-        &file[middle..end],
-    )
-}
-
-fn try_parts(
-    rt: &impl Print,
-    index: Index,
-    keys: &[u64],
-    values: &[u32],
-    table: &[u8],
-    occ: &[u8],
-) -> io::Result<()> {
-    let kind = index.kind;
+    let table = file.get(start..middle).ok_or(Refusal::GLength)?;
+    let occ = file.get(middle..end).ok_or(Refusal::GLength)?;
     let mut supers = [0u32; 130];
-    let counted = count_supers(kind, index.m, occ, &mut supers);
-    if counted != ACCEPTED {
-        return refuse(rt, counted);
-    }
+    count_supers(index.kind, index.m, occ, &mut supers)?;
     let mut answers = [0u32; 1000];
-    let no = answer_all(index, keys, table, occ, &supers, &mut answers);
-    if no != ACCEPTED {
-        return refuse(rt, no);
-    }
-    let all: &[u32] = &answers;
-    if all.len() < keys.len() {
-        return refuse(rt, NO_ROOM);
-    }
-    let same = right(index, values, &all[0..keys.len()]);
-    say_image(rt, index)?;
-    say_keys(rt, keys.len() as u64, same)
+    answer_all(index, keys, table, occ, &supers, &mut answers)?;
+    let answers = answers.get(..keys.len()).ok_or(Refusal::NoRoom)?;
+    right(index, values, answers)
 }
 
-fn open_kind(kind: Kind, file: &[u8], len: u64) -> Built {
-    match kind {
-        Kind::Assigned => open_packed(file, len),
-        Kind::Compact => open_compact(file, len),
-    }
+// What every key was tried on, how many keys there are, and how many answers are right.
+#[derive(Clone, Copy)]
+struct Tried {
+    index: Index,
+    keys: u64,
+    same: u64,
 }
 
-// The image is opened by the kind of the list.
-fn try_list(
-    rt: &(impl Files + Print + Eprint),
-    listed: Listed,
-    keys: &[u64],
-    values: &[u32],
-) -> io::Result<()> {
+// The list is judged first; its kind names the opener.
+fn try_all(rt: &(impl Files + Eprint)) -> Result<Tried, Refusal> {
+    let mut bytes = [0u8; 14007];
+    let n = read_file(rt, "keys.lst", &mut bytes).read;
+    let mut keys = [0u64; 1000];
+    let mut values = [0u32; 1000];
+    let list = read_list(&bytes[0..n], &mut keys, &mut values)?;
+    let count = list.count as usize;
+    let keys = keys.get(..count).ok_or(Refusal::NoRoom)?;
+    let values = values.get(..count).ok_or(Refusal::NoRoom)?;
     let mut file = [0u8; 270368];
-    let kind = listed.kind;
     let held = read_file(rt, "index.bdz", &mut file);
-    let bytes = &file[0..held.read];
-    let opened = open_kind(kind, bytes, held.len);
-    if opened.no != ACCEPTED {
-        return refuse(rt, opened.no);
-    }
-    try_index(rt, opened.index, keys, values, bytes)
+    let file = &file[0..held.read];
+    let index = match list.kind {
+        Kind::Assigned => open_packed(file, held.len)?,
+        Kind::Compact => open_compact(file, held.len)?,
+    };
+    let same = try_index(index, keys, values, file)?;
+    Ok(Tried {
+        index,
+        keys: keys.len() as u64,
+        same,
+    })
 }
 
 fn main(rt: HostRuntime) -> io::Result<()> {
-    let mut list = [0u8; 14007];
-    let n = read_file(&rt, "keys.lst", &mut list).read;
-    let mut keys = [0u64; 1000];
-    let mut values = [0u32; 1000];
-    let listed = read_list(&list[0..n], &mut keys, &mut values);
-    if listed.no != ACCEPTED {
-        return refuse(&rt, listed.no);
+    match try_all(&rt) {
+        Ok(tried) => {
+            say_image(&rt, tried.index)?;
+            say_keys(&rt, tried.keys, tried.same)
+        }
+        // one line, as "refused 8 bad magic"
+        Err(refusal) => println!(rt; "refused {refusal}"),
     }
-    let all: &[u64] = &keys;
-    let every: &[u32] = &values;
-    let count = listed.count as usize;
-    if all.len() < count || every.len() < count {
-        return refuse(&rt, NO_ROOM);
-    }
-    try_list(&rt, listed, &all[0..count], &every[0..count])
 }

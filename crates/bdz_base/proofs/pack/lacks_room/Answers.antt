@@ -32,27 +32,31 @@ last_few words w h = let l : words % 8 ≤ 7 = omega arith in mul-le-mul l h
 pub returns-then-eights-bytes : goal.returns-then-eights-bytes
 returns-then-eights-bytes c =
     let a = c.args in
-    sym (lt-ltb a.bytes (table_bytes a.width a.words) (too_many a.words a.width a.bytes (omega arith) c.if-eights-bytes.true))
+    let w = c.bits-w.result in
+    rw (sym c.bits-w.ensures.0)
+    (sym (lt-ltb a.bytes (table_bytes w a.words)
+    (too_many a.words w a.bytes c.bits-w.ensures.1 c.if-eights-bytes.true)))
 
 pub overflow_mul-left : goal.overflow_mul-left
 overflow_mul-left c =
     let a = c.args in
-    omega (arith, enough_eights a.words a.width a.bytes (omega arith) c.if-eights-bytes.false)
+    omega (arith, enough_eights a.words c.bits-w.result a.bytes c.bits-w.ensures.1 c.if-eights-bytes.false)
 
 pub overflow_sub-left : goal.overflow_sub-left
 overflow_sub-left c =
     let a = c.args in
-    enough_eights a.words a.width a.bytes (omega arith) c.if-eights-bytes.false
+    enough_eights a.words c.bits-w.result a.bytes c.bits-w.ensures.1 c.if-eights-bytes.false
 
 pub overflow_mul-result : goal.overflow_mul-result
-overflow_mul-result c = let a = c.args in omega (arith, last_few a.words a.width (omega arith))
+overflow_mul-result c = omega (arith, last_few c.args.words c.bits-w.result c.bits-w.ensures.2)
 
 pub overflow_add-result : goal.overflow_add-result
-overflow_add-result c = let a = c.args in omega (arith, last_few a.words a.width (omega arith))
+overflow_add-result c = omega (arith, last_few c.args.words c.bits-w.result c.bits-w.ensures.2)
 
 pub returns : goal.returns
 returns c =
     let a = c.args in
-    rw (bytes_in_eights a.words a.width)
-    (less_left (a.words / 8 * a.width) ((a.words % 8 * a.width + 7) / 8) a.bytes
-    (enough_eights a.words a.width a.bytes (omega arith) c.if-eights-bytes.false))
+    let w = c.bits-w.result in
+    rw (sym c.bits-w.ensures.0, bytes_in_eights a.words w)
+    (less_left (a.words / 8 * w) ((a.words % 8 * w + 7) / 8) a.bytes
+    (enough_eights a.words w a.bytes c.bits-w.ensures.1 c.if-eights-bytes.false))

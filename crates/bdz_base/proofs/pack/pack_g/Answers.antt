@@ -1,33 +1,33 @@
 -- `bdz_base::pack::pack_g` meets its contract. Assumes nothing.
 use Rattle.bdz_base.proofs.Packing.{no_width, no_room, packed}
-use Rattle.std.proofs.Common.{sym, ◌∙◌, arith, ltb-false, le-ltb, lt-ltb, eq-eqb, ne_eqb}
+use Rattle.bdz_base.proofs.Refusals.{test_held, test_passed}
+use Rattle.std.proofs.Common.{◌≡◌, ◌||◌, eqb, ltb, false, Err, rules, sym, ◌∙◌, ltb-false}
 use Rattle.bdz_base.proofs.pack.pack_g.Goals as goal
 
-pub returns-then-width-eq0 : goal.returns-then-width-eq0
-returns-then-width-eq0 c =
+pub returns-in_err-width : goal.returns-in_err-width
+returns-in_err-width c =
     let a = c.args in
-    no_width a.width a.g.now a.body.now (rw (eq-eqb a.width 0 c.if-width-eq0.true))
-
-pub returns-then-width-gt32 : goal.returns-then-width-gt32
-returns-then-width-gt32 c =
-    let a = c.args in
-    no_width a.width a.g.now a.body.now (rw (ne_eqb a.width 0 c.if-width-eq0.false, lt-ltb 32 a.width c.if-width-gt32.true))
+    let refusal = c.in_err-width.field-0.0 in
+    let is : c.from_residual.result ≡ Err refusal = search rules in
+    let held = test_held refusal 10 (eqb a.width 0 || ltb 32 a.width) c.in_err-width.ensures.number_is in
+    rw (is, held.1) (no_width a.width a.g.now a.body.now held.0)
 
 pub returns-then-lacks_room : goal.returns-then-lacks_room
 returns-then-lacks_room c =
     let a = c.args in
-    let some = c.if-width-eq0.false in
-    let few = c.if-width-gt32.false in
-    no_room a.width a.g.now a.body.now (rw (ne_eqb a.width 0 some, le-ltb 32 a.width few)) (sym c.lacks_room.ensures ∙ c.if-lacks_room.true)
+    let w = c.in_ok-width in
+    let fits : (eqb a.width 0 || ltb 32 a.width) ≡ false = test_passed 9 _ w.ensures.number_is in
+    no_room a.width a.g.now a.body.now fits
+    (rw (sym w.ensures.bits_are) (sym c.lacks_room.ensures ∙ c.if-lacks_room.true))
 
 pub pack_words-requires : goal.pack_words-requires
-pack_words-requires c =
-    let a = c.args in
-    let l = sym c.lacks_room.ensures ∙ c.if-lacks_room.false in
-    (omega arith, ltb-false _ _ l)
+pack_words-requires c = ltb-false _ _ (sym c.lacks_room.ensures ∙ c.if-lacks_room.false)
 
 pub returns : goal.returns
 returns c =
     let a = c.args in
-    packed a.width a.g.now a.body.now (rw (ne_eqb a.width 0 c.if-width-eq0.false, le-ltb 32 a.width c.if-width-gt32.false))
-    (sym c.lacks_room.ensures ∙ c.if-lacks_room.false) c.pack_words.ensures
+    let w = c.in_ok-width in
+    let fits : (eqb a.width 0 || ltb 32 a.width) ≡ false = test_passed 9 _ w.ensures.number_is in
+    packed a.width a.g.now a.body.now fits
+    (rw (sym w.ensures.bits_are) (sym c.lacks_room.ensures ∙ c.if-lacks_room.false))
+    (rw (sym w.ensures.bits_are) c.pack_words.ensures)

@@ -1,10 +1,7 @@
--- `bdz_base::pack::pack_words` meets its contract. The loop's invariant: i words have come in. Assumes nothing.
+-- `bdz_base::pack::pack_words` meets its contract. The loop's invariant: so many words have come in. Assumes nothing.
 use Rattle.bdz_base.proofs.Packing.{Packing}
-use Rattle.std.proofs.Common.{◌-◌, ◌<◌, ◌≤◌, length}
+use Rattle.std.proofs.Common.{◌<◌, ◌≤◌, length}
 use Rattle.bdz_base.proofs.pack.pack_words.Given as goal
 
-abbrev pub invariant-loop-i : goal.invariant-loop-i
-invariant-loop-i l = (l.i ≤ length l.g) × (l.carry.bits < 32) × Packing l.width l.g l.initial.body l.i l.body l.carry
-
-abbrev pub decreases-loop-i : goal.decreases-loop-i
-decreases-loop-i l = length l.g - l.i
+abbrev pub invariant-loop-word : goal.invariant-loop-word
+invariant-loop-word l = (l.word-index ≤ length l.g) × (l.carry.bits < 32) × Packing l.width.bits l.g l.initial.body l.word-index l.body l.carry

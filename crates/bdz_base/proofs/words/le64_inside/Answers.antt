@@ -1,5 +1,5 @@
 -- `bdz_base::words::le64_inside` meets its contract. The loop's invariant: the accumulator has the first i bytes. Assumes nothing.
-use Rattle.std.proofs.Common.{◌≡◌, ℕ, ◌*◌, ap, ◌∙◌, arith}
+use Rattle.std.proofs.Common.{◌≡◌, ℕ, ◌*◌, ◌^◌, ◌<◌, ap, ◌∙◌, slice_index, arith, rules}
 use Rattle.bdz_base.specs.Pack.{bits_at}
 use Rattle.bdz_base.proofs.Digits.{bits_none, byte_more, byte_joins}
 use Rattle.bdz_base.proofs.words.le64_inside.Goals as goal
@@ -17,7 +17,8 @@ pub join-acc-requires : goal.join-acc-requires
 join-acc-requires c =
     let l = c.loop-i in
     let a = c.args in
-    byte_joins a.part.now l.i l.acc c.wide.result l.invariant.1 c.wide.ensures.1 (omega arith)
+    let low : c.from.result < 2 ^ 8 = search rules in
+    byte_joins a.part.now l.i l.acc c.from.result l.invariant.1 low (omega arith)
 
 pub overflow_step-i : goal.overflow_step-i
 overflow_step-i c = omega arith
@@ -29,8 +30,10 @@ pub loop-i-preserved : goal.loop-i-preserved
 loop-i-preserved c =
     let l = c.loop-i in
     let a = c.args in
-    let b = c.wide in
-    (omega arith, c.join-acc.ensures ∙ byte_more a.part.now l.i b.result l.acc l.invariant.1 b.ensures.0 b.ensures.1)
+    let b = c.from in
+    let is : b.result ≡ slice_index a.part.now l.i = search rules in
+    let low : b.result < 2 ^ 8 = search rules in
+    (omega arith, c.join-acc.ensures ∙ byte_more a.part.now l.i b.result l.acc l.invariant.1 is low)
 
 pub returns : goal.returns
 returns c =

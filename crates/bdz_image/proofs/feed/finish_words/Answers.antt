@@ -1,9 +1,13 @@
 -- `bdz_image::feed::finish_words` meets its contract. Assumes nothing.
-use borrow.Author.Tests.{eq-eqb, ne_eqb}
+use Rattle.std.proofs.Common.{◌≡◌, Err, rules}
+use Rattle.bdz_base.proofs.Refusals.{refused_test}
 use Rattle.bdz_image.proofs.feed.finish_words.Goals as goal
 
-pub returns-then-words-ne-ACCEPTED : goal.returns-then-words-ne-ACCEPTED
-returns-then-words-ne-ACCEPTED c = rw (ne_eqb c.args.words.no 0 c.if-words-ne-ACCEPTED.true)
+pub returns-in_err-words : goal.returns-in_err-words
+returns-in_err-words c =
+    let refusal = c.in_err-words.field-0.0 in
+    let is : c.from_residual.result ≡ Err refusal = search rules in
+    rw (is, c.in_err-words.was, refused_test refusal)
 
 pub returns : goal.returns
-returns c = rw (eq-eqb c.args.words.no 0 c.if-words-ne-ACCEPTED.false) c.finish_index.ensures
+returns c = rw c.in_ok-words.was c.finish_index.ensures

@@ -1,11 +1,16 @@
 -- `bdz_image::header::put_header` meets its contract. Assumes nothing.
 use mathlib.Core.Path.{◌∙◌}
 use native.Mathlib.Omega.{arith}
+use Rattle.bdz_base.proofs.Refusals.{accepted_ok}
 use Rattle.bdz_image.proofs.Fields.{header_packed}
-use Rattle.bdz_image.proofs.Writing.{packed_whole}
+use Rattle.bdz_image.proofs.Writing.{packed_whole, packed_accepted}
 use Rattle.bdz_image.proofs.header.put_header.Goals as goal
+
+pub unwrap-requires : goal.unwrap-requires
+unwrap-requires c =
+    accepted_ok c.pack_g.result (packed_accepted 32 _ c.args.out.now c.pack_g.ensures (omega arith) (omega arith) (omega arith))
 
 pub returns : goal.returns
 returns c =
     let a = c.args in
-    rw (c.low_half.ensures, c.high_half.ensures) at (packed_whole 32 _ a.out.now c.pack_g.ensures (omega arith) (omega arith) (omega arith)) ∙ header_packed a.h
+    rw (c.low.ensures, c.high.ensures) at (packed_whole 32 _ a.out.now c.pack_g.ensures (omega arith) (omega arith) (omega arith)) ∙ header_packed a.h

@@ -9,10 +9,10 @@ pub returns-then-last_page-so_far : goal.returns-then-last_page-so_far
 returns-then-last_page-so_far c =
     let a = c.args in
     let e = c.last_page.ensures.0 in
-    let low = both_below a.width a.order.now a.i a.so_far.next (omega arith) in
-    listing_skip_two (own_page a.width a.order.now) a.i c.requires.3 (omega arith) low.0 low.1
+    let low = both_below a.width.bits a.order.now a.i a.so_far.next (omega arith) in
+    listing_skip_two (own_page a.width.bits a.order.now) a.i c.requires.1 (omega arith) low.0 low.1
 
 pub returns : goal.returns
 returns c =
     let a = c.args in
-    listing_twice (own_page a.width a.order.now) a.i c.note.ensures
+    listing_twice (own_page a.width.bits a.order.now) a.i c.note.ensures

@@ -1,5 +1,5 @@
 -- `bdz_image::list::own_page` meets its contract. Assumes nothing.
-use mathlib.Core.Path.{◌≡◌}
+use mathlib.Core.Path.{◌≡◌, sym}
 use Prim.Native.Nat.{◌-◌, ◌*◌, ◌/◌, ◌%◌, ◌^◌}
 use native.Mathlib.Nat.{zero-mul, add-zero, one-mul}
 use native.Mathlib.Omega.{arith}
@@ -11,23 +11,29 @@ use Rattle.bdz_image.proofs.list.own_page.Goals as goal
 pub overflow_mul-result : goal.overflow_mul-result
 overflow_mul-result c =
     let a = c.args in
-    omega (arith, small_entry (get_or a.order.now (a.i / 2) 0) a.width (omega (arith, c.shared_slice_known-1.given (a.i / 2))) (omega arith))
+    let entry = get_or a.order.now (a.i / 2) 0 in
+    omega (arith, small_entry entry c.bits.result (omega (arith, c.shared_slice_known-1.given (a.i / 2))) (omega arith))
 
 pub overflow_cast-result-then-i-eq0 : goal.overflow_cast-result-then-i-eq0
 overflow_cast-result-then-i-eq0 c =
     let a = c.args in
-    omega (arith, small_entry (get_or a.order.now (a.i / 2) 0) a.width (omega (arith, c.shared_slice_known-1.given (a.i / 2))) (omega arith))
+    let entry = get_or a.order.now (a.i / 2) 0 in
+    omega (arith, small_entry entry c.bits.result (omega (arith, c.shared_slice_known-1.given (a.i / 2))) (omega arith))
 
 pub returns-then-i-eq0 : goal.returns-then-i-eq0
 unfolding own_page
 returns-then-i-eq0 c =
     let a = c.args in
     let even : a.i % 2 ≡ 0 = omega arith in
-    (rw (even, zero-mul (a.width - 1), add-zero (get_or a.order.now (a.i / 2) 0 / 2 ^ 32 * a.width)), omega (arith, small_entry (get_or a.order.now (a.i / 2) 0) a.width (omega (arith, c.shared_slice_known-1.given (a.i / 2))) (omega arith)))
+    let w = c.bits.result in
+    let entry = get_or a.order.now (a.i / 2) 0 in (
+      rw (sym c.bits.ensures.0, even, zero-mul (w - 1), add-zero (entry / 2 ^ 32 * w)),
+      omega (arith, small_entry entry w (omega (arith, c.shared_slice_known-1.given (a.i / 2))) (omega arith)),
+    )
 
 pub returns : goal.returns
 unfolding own_page
 returns c =
     let a = c.args in
     let odd : a.i % 2 ≡ 1 = omega arith in
-    (rw (odd, one-mul (a.width - 1)) c.last_page.ensures.0, c.last_page.ensures.1)
+    (rw (odd, one-mul (a.width.bits - 1)) c.last_page.ensures.0, c.last_page.ensures.1)

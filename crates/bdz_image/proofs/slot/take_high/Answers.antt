@@ -12,7 +12,10 @@ pub put_high-requires : goal.put_high-requires
 put_high-requires c =
     let a = c.args in
     let k = c.cut_of-k.result in
-    (rw c.bits_at-x.ensures (lt_of_lt_of_le (bits_lt (a.width - k) a.bytes.now 0) (pow_mono {i = a.width - k} {j = 32 - k} (omega arith))), omega arith)
+    let rest = c.bits.result - k in (
+      rw c.bits_at-x.ensures (lt_of_lt_of_le (bits_lt rest a.bytes.now 0) (pow_mono {i = rest} {j = 32 - k} (omega arith))),
+      omega arith,
+    )
 
 pub put_high-requires-2 : goal.put_high-requires-2
 put_high-requires-2 c = (pow_pos (32 - c.cut_of-k.result), omega arith)

@@ -5,7 +5,7 @@ use Rattle.bdz_image.proofs.Small.{small}
 use Rattle.bdz_image.proofs.slot.take_low.Goals as goal
 
 pub overflow_mul-at : goal.overflow_mul-at
-overflow_mul-at c = omega (arith, small c.args.v c.args.width (omega arith) (omega arith))
+overflow_mul-at c = omega (arith, small c.args.v c.bits.result (omega arith) (omega arith))
 
 pub returns : goal.returns
 unfolding taken_low

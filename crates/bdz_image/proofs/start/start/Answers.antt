@@ -20,7 +20,7 @@ returns c =
     record {
       sorted = s.ensures.0;
       same = s.ensures.1;
-      fresh = c.fill.ensures ∙ (λ i. replicate (needs_slots c i) (c.fresh.ensures i));
+      fresh = c.fill.ensures.after (λ y e. e) ∙ (λ i. replicate (needs_slots c i) (c.fresh.ensures i));
       counted = l.0;
-      listed = l.1 ∙ ap (λ (n : ℕ). padded n (list_of a.width s.new.order)) (needs_pages c);
+      listed = l.1 ∙ ap (λ (n : ℕ). padded n (list_of a.width.bits s.new.order)) (needs_pages c);
     }

@@ -17,5 +17,6 @@ pub returns-else-s-slots : goal.returns-else-s-slots
 unfolding touch_of
 returns-else-s-slots c =
     let a = c.args in
+    let w = a.width.bits in
     let l : length a.slots.now ≤ a.e % 2 ^ 32 = omega (arith, and_mask a.e 32) in
-    sym (set_out a.slots.now (a.e % 2 ^ 32) (taken_of a.width a.page a.bytes.now (a.e / 2 ^ 32) (get_or a.slots.now (a.e % 2 ^ 32) 0)) l)
+    sym (set_out a.slots.now (a.e % 2 ^ 32) (taken_of w a.page a.bytes.now (a.e / 2 ^ 32) (get_or a.slots.now (a.e % 2 ^ 32) 0)) l)

@@ -1,9 +1,18 @@
 -- `bdz_image::write::put_table` meets its contract. Assumes nothing.
-use native.Mathlib.Omega.{arith}
-use Rattle.bdz_image.proofs.Writing.{packed_whole}
+use mathlib.Core.Path.{sym}
+use Rattle.bdz_base.proofs.Refusals.{accepted_ok}
+use Rattle.bdz_image.proofs.Writing.{packed_whole, packed_accepted}
 use Rattle.bdz_image.proofs.write.put_table.Goals as goal
+
+pub unwrap-requires : goal.unwrap-requires
+unwrap-requires c =
+    let a = c.args in
+    let w = c.bits.ensures in
+    accepted_ok c.pack_g.result
+    (packed_accepted c.bits.result a.words.now a.out.now c.pack_g.ensures w.1 w.2 (rw w.0 c.requires))
 
 pub returns : goal.returns
 returns c =
     let a = c.args in
-    packed_whole a.width a.words.now a.out.now c.pack_g.ensures (omega arith) (omega arith) (omega arith)
+    let w = c.bits.ensures in
+    rw (sym w.0) (packed_whole c.bits.result a.words.now a.out.now c.pack_g.ensures w.1 w.2 (rw w.0 c.requires))

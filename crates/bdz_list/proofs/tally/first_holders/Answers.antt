@@ -12,10 +12,10 @@ returns-then-seen-need c =
 pub slice_bounds-hold_part-end-2 : goal.slice_bounds-hold_part-end-2
 slice_bounds-hold_part-end-2 c = sym (length-take-le _ c.args.seen.now c.if-seen-need.false)
 
-pub hold_part-count-requires : goal.hold_part-count-requires
-hold_part-count-requires c = length-take-le _ c.args.seen.now c.if-seen-need.false ∙ c.occ_packed_bytes-need.ensures
+pub hold_part-requires : goal.hold_part-requires
+hold_part-requires c = length-take-le _ c.args.seen.now c.if-seen-need.false ∙ c.occ_packed_bytes-need.ensures
 
 pub returns : goal.returns
 returns c =
     let a = c.args in
-    some_holders a.n a.answers.now a.seen.now c.occ_packed_bytes-need.ensures c.if-seen-need.false c.hold_part-count.ensures
+    some_holders a.n a.answers.now a.seen.now c.occ_packed_bytes-need.ensures c.if-seen-need.false c.hold_part.ensures

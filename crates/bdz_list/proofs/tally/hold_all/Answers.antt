@@ -1,4 +1,4 @@
--- `bdz_list::tally::hold_all` meets its contract. The loop's invariant: i answers were looked at, and each bit tells whether its
+-- `bdz_list::tally::hold_all` meets its contract. The loop's invariant: so many answers were looked at, and each bit tells whether its
 -- number came. Assumes nothing.
 use mathlib.Core.Path.{sym, ap, ◌∙◌}
 use native.Mathlib.Omega.{arith}
@@ -6,20 +6,20 @@ use lib.ListN.{length, length-replicate}
 use Rattle.bdz_list.proofs.Counts.{holding_none, holding_more, holding_all, counted_few}
 use Rattle.bdz_list.proofs.tally.hold_all.Goals as goal
 
-pub loop-i-init : goal.loop-i-init
-loop-i-init c = holding_none _ _ c.requires
+pub loop-answer-init : goal.loop-answer-init
+loop-answer-init c = holding_none _ _ c.requires
 
 pub hold-count-requires : goal.hold-count-requires
-hold-count-requires c = c.loop-i.invariant.long
+hold-count-requires c = c.loop-answer.invariant.long
 
 pub overflow_add-count : goal.overflow_add-count
-overflow_add-count c = omega (arith, c.loop-i.invariant.few, counted_few c.hold-count.ensures)
+overflow_add-count c = omega (arith, c.loop-answer.invariant.few, counted_few c.hold-count.ensures)
 
-pub loop-i-preserved : goal.loop-i-preserved
-loop-i-preserved c = holding_more c.loop-i.invariant (omega arith) c.hold-count.ensures
+pub loop-answer-preserved : goal.loop-answer-preserved
+loop-answer-preserved c = holding_more c.loop-answer.invariant (omega arith) c.hold-count.ensures
 
 pub shape_of-seen : goal.shape_of-seen
-shape_of-seen c = c.loop-i.invariant.long ∙ sym (ap length c.requires ∙ length-replicate _ 0)
+shape_of-seen c = c.loop-answer.invariant.long ∙ sym (ap length c.requires ∙ length-replicate _ 0)
 
 pub returns : goal.returns
-returns c = holding_all c.loop-i.invariant (omega arith)
+returns c = holding_all c.loop-answer.invariant (omega arith)

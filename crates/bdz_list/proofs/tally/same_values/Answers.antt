@@ -1,16 +1,30 @@
 -- `bdz_list::tally::same_values` meets its contract. The loop's invariant: i places were compared. Assumes nothing.
-use native.Mathlib.Omega.{arith}
-use Rattle.bdz_list.proofs.Counts.{comparing_none, comparing_more, comparing_all}
+use Rattle.std.proofs.Common.{◌≡◌, length, min, arith, rules}
+use Rattle.bdz_list.proofs.Counts.{one_same, comparing_none, comparing_more, comparing_all}
 use Rattle.bdz_list.proofs.tally.same_values.Goals as goal
 
 pub loop-i-init : goal.loop-i-init
-loop-i-init c = (omega arith, comparing_none _ _)
+loop-i-init c = comparing_none _ _
+
+pub bounds-answers-i : goal.bounds-answers-i
+bounds-answers-i c =
+    let n : c.min-n.result ≡ min (length c.args.values.now) (length c.args.answers.now) = search rules in
+    omega arith
+
+pub bounds-values-i : goal.bounds-values-i
+bounds-values-i c =
+    let n : c.min-n.result ≡ min (length c.args.values.now) (length c.args.answers.now) = search rules in
+    omega arith
 
 pub overflow_add-same : goal.overflow_add-same
-overflow_add-same c = omega (arith, c.loop-i.invariant.1.few, c.one_if_same-same.ensures.1)
+overflow_add-same c = omega (arith, c.loop-i.invariant.few, one_same _ c.from-same.ensures)
 
 pub loop-i-preserved : goal.loop-i-preserved
-loop-i-preserved c = (omega arith, comparing_more c.loop-i.invariant.1 (omega arith) (omega arith) c.one_if_same-same.ensures)
+loop-i-preserved c =
+    let n : c.min-n.result ≡ min (length c.args.values.now) (length c.args.answers.now) = search rules in
+    comparing_more c.loop-i.invariant (omega arith) (omega arith) (one_same _ c.from-same.ensures)
 
 pub returns : goal.returns
-returns c = comparing_all c.loop-i.invariant.1 (omega arith)
+returns c =
+    let n : c.min-n.result ≡ min (length c.args.values.now) (length c.args.answers.now) = search rules in
+    comparing_all c.loop-i.invariant (omega arith)

@@ -1,9 +1,13 @@
 -- `bdz_oracle::building::settle` meets its contract. Assumes nothing.
-use borrow.Author.Tests.{eq-eqb, ne_eqb}
+use Rattle.std.proofs.Common.{◌≡◌, Err, rules}
+use Rattle.bdz_base.proofs.Refusals.{refused_test}
 use Rattle.bdz_oracle.proofs.building.settle.Goals as goal
 
-pub returns-then-no-ne-ACCEPTED : goal.returns-then-no-ne-ACCEPTED
-returns-then-no-ne-ACCEPTED c = rw (ne_eqb _ _ c.if-no-ne-ACCEPTED.true) c.refused.ensures
+pub returns-in_err-read : goal.returns-in_err-read
+returns-in_err-read c =
+    let refusal = c.in_err-read.field-0.0 in
+    let is : c.from_residual.result ≡ Err refusal = search rules in
+    rw (is, c.in_err-read.was, refused_test refusal)
 
 pub returns : goal.returns
-returns c = rw (eq-eqb _ _ c.if-no-ne-ACCEPTED.false)
+returns c = rw c.in_ok-read.was

@@ -8,7 +8,7 @@ use Rattle.bdz_oracle.proofs.hashing.bdz_hash_verts.Goals as goal
 pub returns-then-out-n : goal.returns-then-out-n
 returns-then-out-n c =
     let a = c.args in
-    no_room (kind_of a.compact) a.keys.now a.seed a.m a.out.now (lt-ltb _ _ c.if-out-n.true)
+    rw c.from.ensures (no_room (kind_of a.compact) a.keys.now a.seed a.m a.out.now (lt-ltb _ _ c.if-out-n.true))
 
 pub returns-then-compact-eq0 : goal.returns-then-compact-eq0
 returns-then-compact-eq0 c =

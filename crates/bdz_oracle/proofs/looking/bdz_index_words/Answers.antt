@@ -2,4 +2,4 @@
 use Rattle.bdz_oracle.proofs.looking.bdz_index_words.Goals as goal
 
 pub returns : goal.returns
-returns c = rw c.kind_of.ensures at c.index_batch.ensures
+returns c = rw c.number_of.ensures (rw c.record_of-index.ensures at c.index_batch.ensures)

@@ -1,7 +1,6 @@
 -- `bdz_oracle::looking::bdz_rank1_no` meets its contract. Assumes nothing.
-use mathlib.Core.Path.{ap}
-use Rattle.bdz_table.specs.declared.index.Answer.{Answer}
+use Rattle.bdz_oracle.proofs.ToldLaws.{no_answer}
 use Rattle.bdz_oracle.proofs.looking.bdz_rank1_no.Goals as goal
 
 pub returns : goal.returns
-returns c = ap (λ (r : Answer). r.no) c.rank1.ensures
+returns c = rw (c.number_of.ensures, no_answer c.rank1.result, c.rank1.ensures)

@@ -7,7 +7,7 @@ use Rattle.bdz_table.proofs.assign.assign_one.Goals as goal
 pub sum_marked-s-requires : goal.sum_marked-s-requires
 sum_marked-s-requires c =
     let a = c.args in
-    record { marked = c.requires.marked; reach = rw c.vertices_of-us.ensures (reach_of a.kind a.key a.seed a.m a.g.now (omega arith) (omega arith)) }
+    record { marked = c.requires.marked; reach = rw c.vertices-us.ensures (reach_of a.graph.kind a.graph.keys.now a.graph.seed a.graph.m a.p.edge a.g.now (omega arith) (omega arith)) }
 
 pub overflow_sub-w : goal.overflow_sub-w
 overflow_sub-w c = omega (arith, mod-lt c.sum_marked-s.result {m = c.args.modulus} (omega arith))
@@ -15,4 +15,4 @@ overflow_sub-w c = omega (arith, mod-lt c.sum_marked-s.result {m = c.args.modulu
 pub returns : goal.returns
 returns c =
     let a = c.args in
-    word_of _ _ _ _ _ _ _ (c.sum_marked-s.ensures ∙ ap (sum_at a.g.now) c.vertices_of-us.ensures)
+    word_of _ _ _ _ _ _ _ (c.sum_marked-s.ensures ∙ ap (sum_at a.g.now) c.vertices-us.ensures)

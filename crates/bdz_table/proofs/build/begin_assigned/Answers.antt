@@ -3,6 +3,7 @@ use Rattle.std.proofs.Common.{◌≡◌, ◌<◌, [], length, sym, refl, ap, ◌
 use Rattle.bdz_base.specs.declared.verts.Kind.TheVariants.{Assigned}
 use Rattle.bdz_table.specs.Build.{vertices_for, assigned_table, lengths_with}
 use Rattle.bdz_table.specs.Values.{values_no}
+use Rattle.bdz_table.specs.Steps.{told_run}
 use Rattle.bdz_table.specs.declared.index.Needs.{Needs}
 use Rattle.bdz_table.proofs.NeedLaws.{vertices_fit}
 use Rattle.bdz_table.proofs.Begun.{assigned_passed, need_table, need_seen, shaped_at, room_at, cleared_part, length_assigned, begun_is, values_below, same_part}
@@ -128,8 +129,8 @@ slice_bounds-work_assigned-end-10 c =
     let room = room_at Assigned a.keys.now a.modulus a.table.now a.degrees.now a.xors.now a.queue.now a.order a.marks.now [] a.seen.now c.requires.some p.passed needed.ensures in
     sym (length-take-le _ a.marks.now room.marks)
 
-pub work_assigned-ran-requires : goal.work_assigned-ran-requires
-work_assigned-ran-requires c =
+pub work_assigned-run-requires : goal.work_assigned-run-requires
+work_assigned-run-requires c =
     let a = c.args in
     let p = assigned_passed (length a.keys.now) (length a.values.now) a.modulus (lengths_with a.table.now a.degrees.now a.xors.now a.queue.now a.order a.marks.now [] a.seen.now) c.requires.some c.requires.accepted in
     let needed = c.needs-need in
@@ -151,14 +152,14 @@ returns c =
     let needed = c.needs-need in
     let room = room_at Assigned a.keys.now a.modulus a.table.now a.degrees.now a.xors.now a.queue.now a.order a.marks.now [] a.seen.now c.requires.some p.passed needed.ensures in
     let judged = c.judge_part-verdict in
-    let ran = c.work_assigned-ran in
+    let ran = c.work_assigned-run in
     let ran_to = rw judged.ensures.judged at ran.ensures.ran_to in
     let n = length a.keys.now in
     let t : needed.result.table ≡ vertices_for Assigned n = ap (λ (x : Needs). x.table) needed.ensures ∙ need_table Assigned n a.modulus in
-    let sound : 0 < ran.result.pairs → values_no a.modulus [] a.values.now ≡ 0 = λ h. verdict_none Assigned a.keys.now (values_no a.modulus [] a.values.now) (sym ran_to.no_is ∙ (ran.ensures.sought.pending h).accepted) in
-    record {
+    let sound : 0 < (told_run ran.result).pairs → values_no a.modulus [] a.values.now ≡ 0 = λ h. verdict_none Assigned a.keys.now (values_no a.modulus [] a.values.now) (sym ran_to.no_is ∙ (ran.ensures.sought.pending h).accepted) in
+    rw c.left_of-left.ensures (record {
       to =
-          ready_begun Assigned a.keys.now a.modulus _ (values_no a.modulus [] a.values.now) a.order (assigned_table a.keys.now a.values.now a.modulus) a.table.now a.degrees.now a.xors.now a.queue.now a.marks.now [] a.seen.now
+          ready_begun Assigned a.keys.now a.modulus _ (values_no a.modulus [] a.values.now) a.order (assigned_table a.keys.now a.values.now a.modulus) a.table.now a.degrees.now a.xors.now a.queue.now a.marks.now [] a.seen.now c.finish.result
           c.requires.some c.requires.accepted needed.ensures p.passed refl c.finish.ensures ran_to
           ran.new.table ran.new.degrees ran.new.xors ran.new.queue ran.new.marks ran.ensures.sought (length_assigned a.keys.now a.values.now a.modulus c.requires.some ∙ sym t)
           ran.auto.table ran.auto.degrees ran.auto.xors ran.auto.queue ran.auto.marks;
@@ -166,4 +167,4 @@ returns c =
       same = λ h. sym p.same;
       values_limit = λ h. p.limit;
       values_below = λ h. values_below a.modulus [] a.values.now (sound h);
-    }
+    })

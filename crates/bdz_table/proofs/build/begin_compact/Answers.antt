@@ -3,6 +3,7 @@ use Rattle.std.proofs.Common.{◌≡◌, ℕ, [], length, replicate, sym, refl, 
 use Rattle.bdz_base.specs.Sizes.{occupancy_bytes}
 use Rattle.bdz_base.specs.declared.verts.Kind.TheVariants.{Compact}
 use Rattle.bdz_table.specs.Build.{vertices_for, compact_table, compact_occupancy, lengths_with}
+use Rattle.bdz_table.specs.Steps.{told_run}
 use Rattle.bdz_table.specs.declared.index.Needs.{Needs}
 use Rattle.bdz_table.proofs.NeedLaws.{vertices_fit}
 use Rattle.bdz_table.proofs.Begun.{compact_passed, need_table, need_occupancy, shaped_at, room_at, written_part, length_compact, length_occupied}
@@ -120,8 +121,8 @@ slice_bounds-work_compact-end-12 c =
     let room = room_at Compact a.keys.now (length a.keys.now) a.table.now a.degrees.now a.xors.now a.queue.now a.order a.marks.now a.occupancy.now [] c.requires.some p needed.ensures in
     sym (length-take-le _ a.marks.now room.marks)
 
-pub work_compact-ran-requires : goal.work_compact-ran-requires
-work_compact-ran-requires c =
+pub work_compact-run-requires : goal.work_compact-run-requires
+work_compact-run-requires c =
     let a = c.args in
     let p = compact_passed (length a.keys.now) (lengths_with a.table.now a.degrees.now a.xors.now a.queue.now a.order a.marks.now a.occupancy.now []) c.requires.some c.requires.accepted in
     let needed = c.needs-need in
@@ -134,17 +135,17 @@ returns c =
     let p = compact_passed (length a.keys.now) (lengths_with a.table.now a.degrees.now a.xors.now a.queue.now a.order a.marks.now a.occupancy.now []) c.requires.some c.requires.accepted in
     let needed = c.needs-need in
     let room = room_at Compact a.keys.now (length a.keys.now) a.table.now a.degrees.now a.xors.now a.queue.now a.order a.marks.now a.occupancy.now [] c.requires.some p needed.ensures in
-    let ran = c.work_compact-ran in
+    let ran = c.work_compact-run in
     let n = length a.keys.now in
     let t : needed.result.table ≡ vertices_for Compact n = ap (λ (x : Needs). x.table) needed.ensures ∙ need_table Compact n n in
     let bytes : needed.result.occupancy ≡ occupancy_bytes needed.result.table = ap (λ (x : Needs). x.occupancy) needed.ensures ∙ need_occupancy n n ∙ ap occupancy_bytes (sym t) in
-    let number = number_is Compact a.keys.now n _ 0 a.order (compact_table a.keys.now) a.table.now a.degrees.now a.xors.now a.queue.now a.marks.now a.occupancy.now [] c.requires.some c.requires.accepted needed.ensures p refl c.finish.ensures ran.ensures.ran_to in
-    record {
+    let number = number_is Compact a.keys.now n _ 0 a.order (compact_table a.keys.now) a.table.now a.degrees.now a.xors.now a.queue.now a.marks.now a.occupancy.now [] c.finish.result c.requires.some c.requires.accepted needed.ensures p refl c.finish.ensures ran.ensures.ran_to in
+    rw c.left_of-left.ensures (record {
       to =
-          ready_begun Compact a.keys.now n _ 0 a.order (compact_table a.keys.now) a.table.now a.degrees.now a.xors.now a.queue.now a.marks.now a.occupancy.now []
+          ready_begun Compact a.keys.now n _ 0 a.order (compact_table a.keys.now) a.table.now a.degrees.now a.xors.now a.queue.now a.marks.now a.occupancy.now [] c.finish.result
           c.requires.some c.requires.accepted needed.ensures p refl c.finish.ensures ran.ensures.ran_to
           ran.new.table ran.new.degrees ran.new.xors ran.new.queue ran.new.marks ran.ensures.sought (length_compact a.keys.now c.requires.some ∙ sym t)
           ran.auto.table ran.auto.degrees ran.auto.xors ran.auto.queue ran.auto.marks;
       occupied = λ h. rw (← bytes) (zeroed_part needed.result.occupancy a.occupancy.now ran.new.occupancy room.occupancy (ran.ensures.occupancy_sought.pending h ∙ ap (λ (k : ℕ). replicate k 0) (sym bytes)));
-      occupancy_done = λ none. rw number (written_part ran.result.no needed.result.occupancy (compact_occupancy a.keys.now) a.occupancy.now ran.new.occupancy (length_occupied a.keys.now c.requires.some ∙ ap occupancy_bytes (sym t) ∙ sym bytes) (ran.ensures.occupancy_sought.done none));
-    }
+      occupancy_done = λ none. rw number (written_part (told_run ran.result).no needed.result.occupancy (compact_occupancy a.keys.now) a.occupancy.now ran.new.occupancy (length_occupied a.keys.now c.requires.some ∙ ap occupancy_bytes (sym t) ∙ sym bytes) (ran.ensures.occupancy_sought.done none));
+    })

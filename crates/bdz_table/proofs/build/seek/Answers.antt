@@ -4,29 +4,27 @@ use Rattle.bdz_table.proofs.Ordering.{order_left}
 use Rattle.bdz_table.proofs.Runs.{ran_stuck, seed_found, ran_found}
 use Rattle.bdz_table.proofs.build.seek.Goals as goal
 
-pub returns-then-found-ge256 : goal.returns-then-found-ge256
-returns-then-found-ge256 c =
+pub returns-in_default-clause-ran_to : goal.returns-in_default-clause-ran_to
+returns-in_default-clause-ran_to c =
     let a = c.args in
-    let found = c.find_seed-found in
-    let p = c.requires in record { ran_to = ran_stuck a.kind a.keys.now a.m found.ensures p.count p.is c.if-found-ge256.true; sought_many = record { pending = λ some. absurd (omega arith); refused = λ none z. absurd (omega arith); same = λ none. refl } }
+    ran_stuck a.kind a.keys.now a.m c.requires.count c.requires.is c.in_default.ensures
 
 pub returns : goal.returns
 returns c =
     let a = c.args in
-    let found = c.find_seed-found in
     let p = c.requires in
-    let left = c.if-found-ge256.false in
-    let zeros = c.zero32.ensures in
-    let unmarked = c.zero8.ensures in
-    let seed = seed_found a.kind a.keys.now a.m found.ensures p.count p.is left in record {
-      ran_to = ran_found a.kind a.keys.now a.m found.ensures p.count p.is left;
+    let found = c.in-Some.ensures in
+    let zeros = c.fill.ensures.after (λ y e. e) in
+    let unmarked = c.fill-2.ensures.after (λ y e. e) in
+    let seed = seed_found a.kind a.keys.now a.m p.count p.is found in record {
+      ran_to = ran_found a.kind a.keys.now a.m p.count p.is found;
       sought_many = record {
         pending = λ some.
             record {
               accepted = refl;
               many = p.count;
               all = refl;
-              left = order_left a.kind a.keys.now a.m p.lent.sizes.some found.ensures left p.is seed;
+              left = order_left a.kind a.keys.now a.m p.lent.sizes.some found p.is seed;
               words = zeros ∙ ap (λ (k : ℕ). replicate k 0) p.longt;
               marks = unmarked ∙ ap (λ (k : ℕ). replicate k 0) p.longm;
             };

@@ -27,12 +27,12 @@ returns-then-keys-eq1 c =
     let m : a.m ≡ 1 = p.is ∙ one in
     let bytes : length a.occupancy.now ≡ 1 = rw m at c.requires.occupancy_len in record { ran_to = ran_one Compact a.keys.now c.if-keys-eq1.true; sought = sought_done refl (one_word a.table.now 0 (p.longt ∙ m) ∙ sym (one_compact a.keys.now c.if-keys-eq1.true)); occupancy_sought = occupancy_done refl (one_word a.occupancy.now 1 bytes ∙ sym (one_occupancy a.keys.now c.if-keys-eq1.true)) }
 
-pub seek-ran-requires : goal.seek-ran-requires
-seek-ran-requires c =
+pub seek-run-requires : goal.seek-run-requires
+seek-run-requires c =
     c.requires.shaped.many (omega (arith, c.requires.shaped.some, c.if-keys-eq1.false))
 
 pub returns : goal.returns
 returns c =
     let a = c.args in
-    let ran = c.seek-ran in
+    let ran = c.seek-run in
     record { ran_to = ran.ensures.ran_to; sought = sought_many ran.ensures.sought_many (compact_table a.keys.now); occupancy_sought = occupancy_sought ran.ensures.sought_many c.clear_occupancy.ensures c.requires.occupancy_len }

@@ -1,29 +1,28 @@
 -- `bdz_table::lookup::finish_index` meets its contract. Assumes nothing.
-use Rattle.std.proofs.Common.{◌≡◌, ◌+◌, ◌%◌, ◌^◌, sym, ◌∙◌, arith, le-ltb, lt-ltb, ne_eqb}
+use Rattle.std.proofs.Common.{◌≡◌, ◌+◌, ◌%◌, ◌^◌, sym, ◌∙◌, arith, rules, le-ltb, lt-ltb}
 use native.Mathlib.Nat.{mod-add-mod}
+use Rattle.bdz_base.proofs.Refusals.{refused_test}
 use Rattle.bdz_table.specs.Lookup.{finished_of, finish_of}
 use Rattle.bdz_table.proofs.lookup.finish_index.Goals as goal
 
-pub returns-then-no-ne-ACCEPTED : goal.returns-then-no-ne-ACCEPTED
+pub returns-in_err-lookup_no : goal.returns-in_err-lookup_no
 unfolding finish_of
-returns-then-no-ne-ACCEPTED c =
-    let no = c.lookup_no-no in
-    rw (← no.ensures, ne_eqb no.result 0 c.if-no-ne-ACCEPTED.true)
+returns-in_err-lookup_no c =
+    let no = c.in_err-lookup_no in
+    rw (← no.ensures, refused_test no.field-0.0) (search rules)
 
 pub returns-then-index-lt2 : goal.returns-then-index-lt2
 unfolding finish_of finished_of
 returns-then-index-lt2 c =
-    let no = c.lookup_no-no in
-    rw (← no.ensures, c.if-no-ne-ACCEPTED.false, lt-ltb _ _ c.if-index-lt2.true, c.few_answer.ensures)
+    rw (← c.in_ok-lookup_no.ensures, lt-ltb _ _ c.if-index-lt2.true, c.few_answer.ensures)
 
 pub finish_many-requires : goal.finish_many-requires
-finish_many-requires c = (omega (arith, c.if-index-lt2.false), sym c.lookup_no-no.ensures ∙ c.if-no-ne-ACCEPTED.false)
+finish_many-requires c = (omega (arith, c.if-index-lt2.false), sym c.in_ok-lookup_no.ensures)
 
 pub returns : goal.returns
 unfolding finish_of finished_of
 returns c =
     let a = c.args in
-    let no = c.lookup_no-no in
     let sum : c.wrapping_add_u32-sum.result ≡ (a.a + a.b + a.c) % 2 ^ 32 =
     c.wrapping_add_u32-sum.ensures.value ∙ rw (c.wrapping_add_u32.ensures.value, mod-add-mod (a.a + a.b) (2 ^ 32) a.c) in
-    rw (← no.ensures, c.if-no-ne-ACCEPTED.false, le-ltb _ _ c.if-index-lt2.false, ← sum, c.finish_many.ensures)
+    rw (← c.in_ok-lookup_no.ensures, le-ltb _ _ c.if-index-lt2.false, ← sum, c.finish_many.ensures)

@@ -8,7 +8,7 @@ loop-i-preserved c =
     let a = c.args in
     let i = c.loop-i.i in
     let e : i ≡ suc (i - 1) = omega arith in
-    ordering_more a.xor_e.now a.q.now a.n a.order.now c.requires (rw e at c.loop-i.invariant) c.pair_of-p.ensures c.set_pair.ensures c.set_pair.auto.order
+    ordering_more a.xor_e.now a.q.now a.n a.order.now (rw e at c.loop-i.invariant) c.pair_of.ensures
 
 pub returns : goal.returns
 returns c =

@@ -4,6 +4,3 @@ use Rattle.bdz_table.proofs.pairs.note_order.Given as goal
 
 abbrev pub invariant-loop-i : goal.invariant-loop-i
 invariant-loop-i l = Ordering l.xor_e l.q l.n l.initial.order l.i l.order
-
-abbrev pub decreases-loop-i : goal.decreases-loop-i
-decreases-loop-i l = l.i

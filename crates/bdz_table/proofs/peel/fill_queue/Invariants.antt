@@ -1,10 +1,6 @@
 -- `bdz_table::peel::fill_queue` meets its contract. Assumes nothing.
-use Rattle.std.proofs.Common.{◌-◌, length}
 use Rattle.bdz_table.proofs.Counting.{Filling}
 use Rattle.bdz_table.proofs.peel.fill_queue.Given as goal
 
 abbrev pub invariant-loop-v : goal.invariant-loop-v
 invariant-loop-v l = Filling l.deg l.initial.q l.q l.n l.v
-
-abbrev pub decreases-loop-v : goal.decreases-loop-v
-decreases-loop-v l = length l.deg - l.v

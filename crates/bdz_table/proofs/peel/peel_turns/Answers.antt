@@ -1,14 +1,14 @@
 -- `bdz_table::peel::peel_turns` meets its contract. The loop's invariant: what is left to run of the queue is what was to run at first.
 -- Assumes nothing.
 use Rattle.std.proofs.Common.{length, sym, ◌∙◌, arith}
-use Rattle.bdz_table.proofs.Counting.{graph_of_lem}
+use Rattle.bdz_table.proofs.Counting.{graph_at_lem}
 use Rattle.bdz_table.proofs.Turning.{turning_none, turning_take, turning_skip, turning_all, next_inside, key_below, leaves, order_room}
 use Rattle.bdz_table.proofs.peel.peel_turns.Goals as goal
 use Rattle.bdz_table.proofs.peel.peel_turns.Goals.{then-deg-v-eq1, else-deg-v-eq1}
 
 pub loop-qi-init : goal.loop-qi-init
 loop-qi-init c =
-    let G = graph_of_lem c.args.kind c.args.keys.now c.args.seed (length c.args.keys.now) c.args.m c.requires.sizes.some in
+    let G = graph_at_lem c.args.graph (length c.args.graph.keys.now) c.requires.sizes.some in
     turning_none _ _ _ _ _ _ _ G c.requires
 
 pub offset_bounds-q-qi : goal.offset_bounds-q-qi
@@ -22,57 +22,59 @@ overflow_cast-v c = omega (arith, c.type_inv.q c.loop-qi.qi)
 
 pub bounds-deg-v : goal.bounds-deg-v
 bounds-deg-v c =
-    let G = graph_of_lem c.args.kind c.args.keys.now c.args.seed (length c.args.keys.now) c.args.m c.requires.sizes.some in
+    let G = graph_at_lem c.args.graph (length c.args.graph.keys.now) c.requires.sizes.some in
     let l = c.loop-qi in
     omega (arith, next_inside _ _ _ G _ _ _ _ _ _ l.invariant c.loop-qi-test.true, l.invariant.longd)
 
 pub offset_bounds-xor_e-v : goal.offset_bounds-xor_e-v
 offset_bounds-xor_e-v c =
-    let G = graph_of_lem c.args.kind c.args.keys.now c.args.seed (length c.args.keys.now) c.args.m c.requires.sizes.some in
+    let G = graph_at_lem c.args.graph (length c.args.graph.keys.now) c.requires.sizes.some in
     let l = c.loop-qi in
     omega (arith, next_inside _ _ _ G _ _ _ _ _ _ l.invariant c.loop-qi-test.true, c.requires.sizes.few)
 
 pub bounds-xor_e-v : goal.bounds-xor_e-v
 bounds-xor_e-v c =
-    let G = graph_of_lem c.args.kind c.args.keys.now c.args.seed (length c.args.keys.now) c.args.m c.requires.sizes.some in
+    let G = graph_at_lem c.args.graph (length c.args.graph.keys.now) c.requires.sizes.some in
     let l = c.loop-qi in
     omega (arith, next_inside _ _ _ G _ _ _ _ _ _ l.invariant c.loop-qi-test.true, l.invariant.longx)
 
-pub cut_key-qn-requires : goal.cut_key-qn-requires
-cut_key-qn-requires c =
-    let G = graph_of_lem c.args.kind c.args.keys.now c.args.seed (length c.args.keys.now) c.args.m c.requires.sizes.some in
-    let l = c.loop-qi in
-    let test = c.loop-qi-test.true in
-    let one = c.if-deg-v-eq1.true in
-    record { sizes = c.requires.sizes; key_below = key_below _ _ _ G _ _ _ _ _ _ l.invariant test one; leaves = leaves _ _ _ G _ _ _ _ _ _ l.invariant test one }
+pub vertices-us-requires : goal.vertices-us-requires
+vertices-us-requires c =
+    let G = graph_at_lem c.args.graph (length c.args.graph.keys.now) c.requires.sizes.some in
+    key_below _ _ _ G _ _ _ _ _ _ c.loop-qi.invariant c.loop-qi-test.true c.if-deg-v-eq1.true
+
+pub leave-qn-requires : goal.leave-qn-requires
+leave-qn-requires c =
+    let G = graph_at_lem c.args.graph (length c.args.graph.keys.now) c.requires.sizes.some in
+    rw c.vertices-us.ensures (leaves _ _ _ G _ _ _ _ _ _ c.loop-qi.invariant c.loop-qi-test.true c.if-deg-v-eq1.true)
 
 pub offset_bounds-q-c : goal.offset_bounds-q-c
 offset_bounds-q-c c =
-    let G = graph_of_lem c.args.kind c.args.keys.now c.args.seed (length c.args.keys.now) c.args.m c.requires.sizes.some in
+    let G = graph_at_lem c.args.graph (length c.args.graph.keys.now) c.requires.sizes.some in
     let l = c.loop-qi in
     omega (arith, order_room _ _ _ G _ _ _ _ _ _ l.invariant c.loop-qi-test.true, c.requires.sizes.few)
 
 pub bounds-q-c : goal.bounds-q-c
 bounds-q-c c =
-    let G = graph_of_lem c.args.kind c.args.keys.now c.args.seed (length c.args.keys.now) c.args.m c.requires.sizes.some in
+    let G = graph_at_lem c.args.graph (length c.args.graph.keys.now) c.requires.sizes.some in
     let l = c.loop-qi in
-    omega (arith, order_room _ _ _ G _ _ _ _ _ _ l.invariant c.loop-qi-test.true, l.invariant.longq, c.cut_key-qn.auto.q)
+    omega (arith, order_room _ _ _ G _ _ _ _ _ _ l.invariant c.loop-qi-test.true, l.invariant.longq, c.leave-qn.auto.q)
 
 pub offset_bounds-xor_e-v-then-deg-v-eq1 : goal.offset_bounds-xor_e-v-then-deg-v-eq1
 offset_bounds-xor_e-v-then-deg-v-eq1 c =
-    let G = graph_of_lem c.args.kind c.args.keys.now c.args.seed (length c.args.keys.now) c.args.m c.requires.sizes.some in
+    let G = graph_at_lem c.args.graph (length c.args.graph.keys.now) c.requires.sizes.some in
     let l = c.loop-qi in
     omega (arith, next_inside _ _ _ G _ _ _ _ _ _ l.invariant c.loop-qi-test.true, c.requires.sizes.few)
 
 pub bounds-xor_e-v-then-deg-v-eq1 : goal.bounds-xor_e-v-then-deg-v-eq1
 bounds-xor_e-v-then-deg-v-eq1 c =
-    let G = graph_of_lem c.args.kind c.args.keys.now c.args.seed (length c.args.keys.now) c.args.m c.requires.sizes.some in
+    let G = graph_at_lem c.args.graph (length c.args.graph.keys.now) c.requires.sizes.some in
     let l = c.loop-qi in
-    omega (arith, next_inside _ _ _ G _ _ _ _ _ _ l.invariant c.loop-qi-test.true, l.invariant.longx, c.cut_key-qn.auto.xor_e)
+    omega (arith, next_inside _ _ _ G _ _ _ _ _ _ l.invariant c.loop-qi-test.true, l.invariant.longx, c.leave-qn.auto.xor_e)
 
 pub overflow_add-c : goal.overflow_add-c
 overflow_add-c c =
-    let G = graph_of_lem c.args.kind c.args.keys.now c.args.seed (length c.args.keys.now) c.args.m c.requires.sizes.some in
+    let G = graph_at_lem c.args.graph (length c.args.graph.keys.now) c.requires.sizes.some in
     let l = c.loop-qi in
     omega (arith, order_room _ _ _ G _ _ _ _ _ _ l.invariant c.loop-qi-test.true, c.requires.sizes.few)
 
@@ -84,14 +86,14 @@ loop-qi-smaller c = omega (arith, c.loop-qi.invariant.room, c.loop-qi-test.true)
 
 pub loop-qi-preserved : goal.loop-qi-preserved
 loop-qi-preserved c =
-    let G = graph_of_lem c.args.kind c.args.keys.now c.args.seed (length c.args.keys.now) c.args.m c.requires.sizes.some in
+    let G = graph_at_lem c.args.graph (length c.args.graph.keys.now) c.requires.sizes.some in
     let l = c.loop-qi in
     let test = c.loop-qi-test.true in
     elim c.if-deg-v-eq1.branch [
       | then-deg-v-eq1 w ↦
-          let cut = w.cut_key-qn in
+          let cut = w.leave-qn in
           rw (w.deg-is, w.xor_e-is, w.q-is, w.qn-is, w.c-is)
-          (turning_take _ _ _ G _ _ _ _ _ _ l.invariant test w.if-deg-v-eq1.true _ _ _ _ cut.auto.deg cut.auto.xor_e cut.auto.q cut.ensures)
+          (turning_take _ _ _ G _ _ _ _ _ _ l.invariant test w.if-deg-v-eq1.true _ _ _ _ cut.auto.deg cut.auto.xor_e cut.auto.q (rw w.vertices-us.ensures at cut.ensures))
       | else-deg-v-eq1 w ↦
           rw (w.deg-is, w.xor_e-is, w.q-is, w.qn-is, w.c-is)
           (turning_skip _ _ _ G _ _ _ _ _ _ l.invariant test w.if-deg-v-eq1.false)
@@ -108,5 +110,5 @@ shape_of-q c = c.loop-qi.invariant.longq ∙ sym c.requires.longq
 
 pub returns : goal.returns
 returns c =
-    let G = graph_of_lem c.args.kind c.args.keys.now c.args.seed (length c.args.keys.now) c.args.m c.requires.sizes.some in
+    let G = graph_at_lem c.args.graph (length c.args.graph.keys.now) c.requires.sizes.some in
     turning_all _ _ _ G _ _ _ _ _ _ c.loop-qi.invariant c.loop-qi-test.false

@@ -11,9 +11,6 @@ loop-i-init c =
     let a = c.args in
     (filled_none (super_at a.m a.occ.now) (super_count a.m) a.supers.now, super_none a.m a.occ.now)
 
-pub bounds-supers-at : goal.bounds-supers-at
-bounds-supers-at c = omega (arith, c.loop-i.invariant.0.long)
-
 pub overflow_add-acc : goal.overflow_add-acc
 overflow_add-acc c =
     let a = c.args in
@@ -23,9 +20,6 @@ pub loop-i-preserved : goal.loop-i-preserved
 loop-i-preserved c =
     let a = c.args in
     (filled_more c.loop-i.invariant.0 (omega (arith, c.super_count-count.ensures)) (omega arith) c.loop-i.invariant.1, super_more a.m a.occ.now c.loop-i.i c.loop-i.acc c.popcount_bits-acc.result c.block_end.result c.loop-i.invariant.1 c.block_end.ensures c.popcount_bits-acc.ensures)
-
-pub shape_of-supers : goal.shape_of-supers
-shape_of-supers c = c.loop-i.invariant.0.long
 
 pub returns : goal.returns
 unfolding super_counts
