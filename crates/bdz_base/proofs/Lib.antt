@@ -1,4 +1,5 @@
 pub mod Buffers
+mod Bytes
 pub mod Digits
 mod Halves
 pub mod Numbers

@@ -58,21 +58,6 @@ pub giving_more : {carry : Carry} {body : List ℕ} {acc k n b : ℕ} {o : List 
 giving_more {n = n} {b = b} {o = o} p h l e =
     record { gone = suc p.gone; gave = gave_more p.gave h l e; len = length-set o n b ∙ p.len }
 
-pub giving_all : {carry left : Carry} {body o : List ℕ} → Giving carry body left o → left.bits < 8 → Gave (carry.bits / 8) carry body left o
-giving_all {carry} {left} {body} {o} p h =
-    let e : carry.bits / 8 ≡ p.gone = omega (arith, p.gave.bits_left) in
-    rw e p.gave
-
--- four at once
-pub gave_four : (acc k n : ℕ) (body : List ℕ) {b₀ b₁ b₂ b₃ : ℕ} → 32 ≤ k → n + 4 ≤ length body → b₀ ≡ acc % 2 ^ 8 → b₁ ≡ acc / 2 ^ 8 % 2 ^ 8 → b₂ ≡ acc / 2 ^ 16 % 2 ^ 8 → b₃ ≡ acc / 2 ^ 24 % 2 ^ 8 → Gave 4 (record { acc = acc; bits = k; at = n }) body (record { acc = acc / 2 ^ 32; bits = k - 32; at = n + 4 }) (set (set (set (set body n b₀) (n + 1) b₁) (n + 2) b₂) (n + 3) b₃)
-gave_four acc k n body h l e₀ e₁ e₂ e₃ =
-    let whole : Carry = record { acc = acc; bits = k; at = n } in
-    let p₁ = byte_set body acc n 0 (gave_none whole body).bytes (omega arith) (e₀ ∙ ap (λ (x : ℕ). x % 2 ^ 8) (sym (div-one acc))) in
-    let p₂ = byte_set body acc n 1 p₁ (omega arith) e₁ in
-    let p₃ = byte_set body acc n 2 p₂ (omega arith) e₂ in
-    let p₄ = byte_set body acc n 3 p₃ (omega arith) e₃ in
-    record { acc_left = refl; bits_left = omega arith; place = refl; bytes = rw add-zero at p₄ }
-
 -- the rest of a carry: its whole bytes and, where bits are left, one more
 pub rest_whole : {carry left : Carry} {body o : List ℕ} → Gave (carry.bits / 8) carry body left o → left.bits ≡ 0 → o ≡ take carry.at body ++ (bytes_of ((carry.bits + 7) / 8) carry.acc ++ drop (carry.at + (carry.bits + 7) / 8) body)
 rest_whole {carry} {left} {body} {o} p z =

@@ -1,5 +1,7 @@
 -- The text of a refusal, as document 01's table has it. Assumes nothing.
-use Rattle.std.specs.Prelude.{List, [], ◌∷◌, ℕ, codes, get_or}
+use Rattle.std.specs.Prelude.{List, [], ◌∷◌, ◌++◌, ℕ, codes, decimal, get_or}
+use Rattle.bdz_base.specs.declared.refusal.Refusal.{Refusal}
+use Rattle.bdz_base.specs.Refusal.{number}
 
 -- the texts by their number; "0 means accepted" has none
 abbrev pub texts : List (List ℕ)
@@ -30,3 +32,7 @@ texts =
 -- "The text of a refusal is chosen from its number"
 abbrev pub text_of : ℕ → List ℕ
 text_of number = get_or texts number []
+
+-- a refusal in a line, as "8 bad magic": its number, a blank, its text
+abbrev pub line_of : Refusal → List ℕ
+line_of refusal = decimal (number refusal) ++ codes " " ++ text_of (number refusal)

@@ -15,7 +15,7 @@ pub struct Step {
 pub fn splitmix64(state: u64) -> Step
     ensures { result ≡ step_of state }
 {
-    let next = std::num::wrapping_add_u64(state, 0x9e37_79b9_7f4a_7c15);
+    let next = state.wrapping_add(0x9e37_79b9_7f4a_7c15);
     let z1 = wrapping_mul64(next ^ (next >> 30), 0xbf58_476d_1ce4_e5b9);
     let z2 = wrapping_mul64(z1 ^ (z1 >> 27), 0x94d0_49bb_1331_11eb);
     Step {

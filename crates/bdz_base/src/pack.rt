@@ -45,10 +45,7 @@ fn give_four(carry: Carry, body: &mut [u8]) -> Carry
 {
     let acc = carry.acc;
     let at = carry.at;
-    body[at] = low_byte(acc);
-    body[at + 1] = low_byte(acc >> 8);
-    body[at + 2] = low_byte(acc >> 16);
-    body[at + 3] = low_byte(acc >> 24);
+    body[at..at + 4].copy_from_slice(&acc.to_le_bytes()[..4]);
     Carry {
         acc: acc >> 32,
         bits: carry.bits - 32,
@@ -101,6 +98,7 @@ fn give_rest(carry: Carry, body: &mut [u8])
 }
 
 // The words into the first bytes of the body.
+#[inline(never)]
 fn pack_words(g: &[u32], width: Width, body: &mut [u8])
     requires { table_bytes width.bits (length g.now) ≤ length body.old }
     ensures { body.new ≡ over (pack_of width.bits g.now) body.old }

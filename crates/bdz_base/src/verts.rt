@@ -23,7 +23,7 @@ pub struct Verts {
 fn mixed(key: u64, seed: u64) -> u64
     ensures { result ≡ hash_of key seed }
 {
-    mix64(std::num::wrapping_add_u64(key, seed))
+    mix64(key.wrapping_add(seed))
 }
 
 // x, moved on by one modulo m if it is a or b.

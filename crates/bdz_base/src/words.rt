@@ -1,6 +1,6 @@
 // Arithmetic on 64-bit words that the language does not supply: a product that wraps, the high half of one, a rotation,
 // and the number that bytes make.
-ghost use Rattle.std.specs.Prelude.{◌≡◌, ◌+◌, ◌-◌, ◌*◌, ◌/◌, ◌%◌, ◌^◌, ◌<◌, ◌≤◌, length, slice_index};
+ghost use Rattle.std.specs.Prelude.{◌≡◌, ◌+◌, ◌-◌, ◌*◌, ◌/◌, ◌%◌, ◌^◌, ◌<◌, ◌≤◌, length, get_or};
 ghost use Rattle.bdz_base.specs.Mix.{rotl};
 ghost use Rattle.bdz_base.specs.Pack.{bits_at};
 
@@ -12,8 +12,8 @@ pub fn wrapping_mul64(a: u64, b: u64) -> u64
     let a1 = a >> 32;
     let b0 = b & 0xffff_ffff;
     let b1 = b >> 32;
-    let cross = std::num::wrapping_add_u64(a1 * b0, a0 * b1);
-    std::num::wrapping_add_u64(cross << 32, a0 * b0)
+    let cross = (a1 * b0).wrapping_add(a0 * b1);
+    (cross << 32).wrapping_add(a0 * b0)
 }
 
 // The high 64 bits of a product, from halves of 32 bits. Both factors have 64 bits, so that the compiler makes one multiplication of it.
@@ -62,7 +62,7 @@ pub(crate) fn join(acc: u64, x: u64, bits: u32) -> u64
 
 // The byte at i, or 0 where there is none.
 fn byte_at(bytes: &[u8], i: usize) -> u64
-    ensures { (result ≡ slice_index bytes.now i) × (result < 2 ^ 8) }
+    ensures { (result ≡ get_or bytes.now i 0) × (result < 2 ^ 8) }
 {
     bytes.get(i).map_or(0, |&byte| u64::from(byte))
 }
@@ -72,14 +72,11 @@ fn le64_inside(part: &[u8]) -> u64
     requires { 8 ≤ length part.now }
     ensures { result ≡ bits_at 64 part.now 0 }
 {
-    let mut acc: u64 = 0;
-    for i in 0usize..8 {
-        acc = join(acc, u64::from(part[i]), (i * 8) as u32);
-    }
-    acc
+    u64::from_le_bytes(*part.first_chunk::<8>().unwrap())
 }
 
-// The same where some may be missing.
+// The same where some may be missing. Byte by byte: a copy of so many as are there would be a call in each loop that
+// reads words, and costs the feed a tenth.
 fn le64_across(part: &[u8]) -> u64
     ensures { result ≡ bits_at 64 part.now 0 }
 {

@@ -1,19 +1,15 @@
 -- Pages in any order. Assumes nothing.
 use Rattle.bdz_table.specs.Graph.{has}
 use Rattle.bdz_base.specs.Pages.{first_page, last_page}
-use mathlib.Core.Path.{◌≡◌, refl, sym, ap, ◌∙◌, subst}
-use mathlib.Core.Bool.{cond, Bool, true, false, ◌||◌}
-use mathlib.Core.List.{List, [], ◌∷◌}
-use Prim.Native.Nat.{ℕ, zero, suc, ◌+◌, ◌-◌, ◌*◌, ◌/◌, ◌%◌, ◌^◌, ◌≤◌, ◌<◌}
+use Rattle.std.proofs.Common.{◌≡◌, refl, sym, ap, ◌∙◌, subst, cond, Bool, true, false, ◌||◌, List, [], ◌∷◌, ℕ, zero}
+use Rattle.std.proofs.Common.{suc, ◌+◌, ◌-◌, ◌*◌, ◌/◌, ◌%◌, ◌^◌, ◌≤◌, ◌<◌, suc-mul, add_comm, zero-add, mod-lt}
+use Rattle.std.proofs.Common.{zero-mul, div-one, lt_of_lt_of_le, mul-le-mul_right, arith, ◌⊎◌, inl, inr, eqb, pow_pos}
+use Rattle.std.proofs.Common.{pow-add, pow_mono, shr-shr, shr_lt, take, drop, eqb-true, eq-eqb, ne_eqb}
 use native.Mathlib.Decide.{dec_lt}
-use native.Mathlib.Nat.{div-eq_of_lt, suc-mul, add_comm, zero-add, mod-lt, zero-div, zero-mul, zero-mod, div-one, mod-one, lt_of_lt_of_le, mul-le-mul_right}
-use native.Mathlib.Omega.{arith}
-use mathlib.Core.Logic.{◌⊎◌, inl, inr}
-use lib.Dec.{eqb}
-use lib.Pow.{mod-pow-add, ones_split, pow_pos, pow-add, pow_mono, shr-shr, high, low, field, mod-mod-pow, split, ones_lt, shr_lt}
+use native.Mathlib.Nat.{div-eq_of_lt, zero-div, zero-mod, mod-one}
+use lib.Pow.{mod-pow-add, ones_split, high, low, field, mod-mod-pow, split, ones_lt}
 use lib.Arith.{digits_lt}
-use lib.ListN.{take, drop}
-use borrow.Author.Tests.{eqb-true, eqb-false, eq-eqb, ne_eqb}
+use borrow.Author.Tests.{eqb-false}
 use Rattle.bdz_base.specs.Pack.{value_of, bits_at}
 use Rattle.bdz_base.proofs.Digits.{bits_within}
 use Rattle.bdz_image.specs.Page.{missing_in}
@@ -114,11 +110,6 @@ module _ (w cut word : ℕ) (l : cut ≤ w) (b : w ≤ 32) (f : word < 2 ^ w) wh
   unfolding so_far
   so_far_lt s t =
       two_lt w cut (cond t (word / 2 ^ cut) 0) l b (cond_lt t top_lt (pow_pos (w - cut))) (cond_lt s (mod-lt word (pow_pos cut)) (pow_pos cut))
-
-  missing_lt : (s t : Bool) → missing_of w cut s t < 2 ^ 32
-  unfolding missing_of
-  missing_lt s t =
-      two_lt w cut (cond t 0 (2 ^ (w - cut) - 1)) l b (cond_lt t (pow_pos (w - cut)) (ones_lt (w - cut))) (cond_lt s (pow_pos cut) (ones_lt cut))
 
 -- ---- what a slot holds, as a function of the two pages
 

@@ -1,12 +1,7 @@
 -- What is known once an ask passes its checks, and what it then answers. Assumes nothing.
-use mathlib.Core.Path.{◌≡◌, sym, ◌∙◌}
-use mathlib.Core.Bool.{true, false}
-use mathlib.Core.List.{List}
-use Prim.Native.Nat.{ℕ, ◌*◌, ◌^◌, ◌≤◌, ◌<◌}
-use native.Mathlib.Omega.{arith}
-use borrow.Author.Tests.{eqb-false, ltb-false, ne_eqb, lt-ltb, le-ltb}
-use lib.Dec.{eqb, ltb}
-use lib.ListN.{length, get_or}
+use Rattle.std.proofs.Common.{◌≡◌, sym, true, List, ℕ, ◌*◌, ◌^◌, ◌≤◌, ◌<◌, arith, ltb-false, ne_eqb, lt-ltb}
+use Rattle.std.proofs.Common.{le-ltb, eqb, ltb, length, get_or}
+use borrow.Author.Tests.{eqb-false}
 use Rattle.bdz_base.specs.Sizes.{occupancy_bytes, super_count}
 use Rattle.bdz_base.specs.declared.verts.Kind.{Kind}
 use Rattle.bdz_base.specs.declared.verts.Kind.TheVariants.{Assigned, Compact}
@@ -62,30 +57,14 @@ finish_passes index keys occ supers slots l e =
       room = finish_room index.kind index.m occ supers (ask_room index keys slots supers) p.2 (slots_there index keys slots supers room).1;
     })
 
--- ---- the returns
+-- ---- what is then answered
 
-module _ (index : Index) (keys : ℕ) (lent : List ℕ) (position : ℕ) (occ supers slots : List ℕ) where
-  abbrev early : ℕ
-  early = ask_early index keys (length occ) (length supers) (length slots)
-
-  pub past_keys : keys ≤ position → record { no = 20; answer = 0 } ≡ asked_of index keys lent position occ supers slots
-  unfolding asked_of asked_no
-  past_keys h = rw (le-ltb position keys h)
-
-  pub past_lent : position < keys → length lent ≤ position → record { no = 20; answer = 0 } ≡ asked_of index keys lent position occ supers slots
-  unfolding asked_of asked_no
-  past_lent h k = rw (lt-ltb position keys h, le-ltb position (length lent) k)
-
-  module _ (h : position < keys) (k : position < length lent) {no : ℕ} (is : no ≡ ask_early index keys (length occ) (length supers) (length slots)) where
-    pub ask_refused : eqb no 0 ≡ false → record { no = no; answer = 0 } ≡ asked_of index keys lent position occ supers slots
-    unfolding asked_of asked_no
-    ask_refused t = rw (lt-ltb position keys h, lt-ltb position (length lent) k, ← is, t, t)
-
-    pub lists_nothing : no ≡ 0 → lists_pages index keys ≡ false → record { no = 0; answer = 0 } ≡ asked_of index keys lent position occ supers slots
-    unfolding asked_of asked_no
-    lists_nothing z l = rw (lt-ltb position keys h, lt-ltb position (length lent) k, ← is, z, l)
-
-    pub asked_words : no ≡ 0 → lists_pages index keys ≡ true → finish_words index (get_or lent position 0) (words_of slots position) occ supers ≡ asked_of index keys lent position occ supers slots
-    unfolding asked_of asked_no finish_of
-    asked_words z l =
-        rw (lt-ltb position keys h, lt-ltb position (length lent) k, ← is, z, l, finish_passes index keys (length occ) (length supers) (length slots) l (sym is ∙ z))
+pub asked_words : (index : Index) (keys : ℕ) (lent : List ℕ) (position : ℕ) (occ supers slots : List ℕ)
+    → position < keys → position < length lent
+    → 0 ≡ ask_early index keys (length occ) (length supers) (length slots) → lists_pages index keys ≡ true
+    → finish_words index (get_or lent position 0) (words_of slots position) occ supers
+    ≡ asked_of index keys lent position occ supers slots
+unfolding asked_of asked_no finish_of
+asked_words index keys lent position occ supers slots h k early l =
+    let passes = finish_passes index keys (length occ) (length supers) (length slots) l (sym early) in
+    rw (lt-ltb position keys h, lt-ltb position (length lent) k, ← early, l, passes)

@@ -1,12 +1,6 @@
 -- The place that halving finds. Assumes nothing.
-use mathlib.Core.Path.{◌≡◌, refl, sym, ◌∙◌}
-use mathlib.Core.List.{List}
-use Prim.Native.Nat.{ℕ, zero, suc, ◌+◌, ◌-◌, ◌*◌, ◌/◌, ◌≤◌, ◌<◌}
-use native.Mathlib.Omega.{arith}
-use lib.ListN.{length, get_or, length-set, drop, drop_of_length-le}
-use borrow.Author.Tests.{le-ltb, lt-ltb}
-use native.Mathlib.Numerals.{add-one}
-use lib.Seq.{drop-cons}
+use Rattle.std.proofs.Common.{◌≡◌, refl, sym, ◌∙◌, List, ℕ, zero, suc, ◌+◌, ◌-◌, ◌*◌, ◌/◌, ◌≤◌, ◌<◌, arith, length}
+use Rattle.std.proofs.Common.{get_or, length-set, drop, drop_of_length-le, le-ltb, lt-ltb, add-one, drop-cons}
 use Rattle.bdz_image.specs.Sweep.{place_of, vertex_in, sweep_of, touch_of}
 
 abbrev pub mid : ℕ → ℕ → ℕ
@@ -32,9 +26,6 @@ module _ (es : List ℕ) (x : ℕ) where
     pub enough : hi - lo ≤ steps
     pub in_list : hi ≤ n
     pub finds : place_of steps es x lo hi ≡ place_of n es x 0 n
-
-  pub halving_start : (n : ℕ) → Halving n 0 n
-  halving_start n = record { steps = n; enough = omega arith; in_list = omega arith; finds = refl }
 
   pub halving_right : {n lo hi : ℕ} → Halving n lo hi → lo < hi → vertex_in (get_or es (mid lo hi) 0) < x → Halving n (mid lo hi + 1) hi
   halving_right {n} {lo} {hi} r l m = go r.steps r.enough r.finds

@@ -1,15 +1,10 @@
 -- What the writer's steps come to: words packed into a part of their own, and three parts of one buffer lent one after
 -- the other. Assumes nothing.
-use mathlib.Core.Path.{◌≡◌, sym, ap, ap₂, ◌∙◌}
-use mathlib.Core.List.{List, [], ◌++◌, append_assoc, append-nil}
-use Prim.Native.Nat.{ℕ, ◌+◌, ◌-◌, ◌*◌, ◌^◌, ◌<◌, ◌≤◌}
-use native.Mathlib.Nat.{le_trans, mul-le-mul_left, mul-le-mul_right, le-pred_of_lt, sub-zero}
-use native.Mathlib.Omega.{arith}
-use borrow.Author.Tests.{ne_eqb, le-ltb, ltb-false}
+use Rattle.std.proofs.Common.{◌≡◌, sym, ap, ap₂, ◌∙◌, List, [], ◌++◌, append_assoc, append-nil, ℕ, ◌+◌, ◌-◌, ◌≤◌, arith}
+use Rattle.std.proofs.Common.{ne_eqb, le-ltb, ltb-false, ltb, length, take, drop, length-append, drop_of_length-le}
+use Rattle.std.proofs.Common.{take_at, drop_at, drop-drop, length-take-le}
+use native.Mathlib.Nat.{sub-zero}
 use borrow.Rule.Slice.PartMut.{put_mid, post_of}
-use lib.Dec.{ltb}
-use lib.ListN.{length, take, drop, length-append, drop_of_length-le}
-use lib.Seq.{take_at, drop_at, drop-drop, length-take-le}
 use Rattle.bdz_base.specs.Buffer.{over}
 use Rattle.bdz_base.specs.Pack.{pack_of, pack_no, after_pack, Packed}
 use Rattle.bdz_base.specs.Sizes.{table_bytes}
@@ -27,12 +22,6 @@ use Rattle.bdz_image.specs.Write.{write_no}
 use Rattle.bdz_image.proofs.Fields.{length_header}
 
 -- ---- sizes
-
-pub table_bytes_le : (width words : ℕ) → width < 2 ^ 32 → words < 2 ^ 32 → table_bytes width words ≤ 2 ^ 61
-table_bytes_le width words h k =
-    let most : words * width ≤ 18446744065119617025 =
-    le_trans (mul-le-mul_left words (le-pred_of_lt h)) (mul-le-mul_right 4294967295 (le-pred_of_lt k)) in
-    omega arith
 
 pub width_for_le : (kind : Kind) (modulus : ℕ) → (1 ≤ width_for kind modulus) × (width_for kind modulus ≤ 32)
 width_for_le Assigned modulus = (width_pos modulus, width_le modulus)

@@ -1,17 +1,11 @@
 -- The counts, as far as they have come, and what a full count means. Assumes nothing.
 use mir.Val.{bool_byte}
-use mathlib.Core.Path.{◌≡◌, refl, sym, ap, ◌∙◌, subst}
-use mathlib.Core.Bool.{Bool, true, false, not, cond, ◌&&◌}
-use mathlib.Core.List.{List, [], ◌∷◌, ◌++◌}
-use mathlib.Core.Logic.{⊎_elim}
-use Prim.Native.Nat.{ℕ, suc, ◌+◌, ◌/◌, ◌≤◌, ◌<◌, min}
-use native.Mathlib.Nat.{add_assoc, zero-add}
-use native.Mathlib.Numerals.{add-one}
-use native.Mathlib.Omega.{arith}
-use borrow.Author.Tests.{eqb-true, eqb-false, lt-ltb, le-ltb, ltb-true}
-use lib.Dec.{eqb, ltb}
-use lib.ListN.{length, get_or, drop, replicate, length-replicate, drop_of_length-le}
-use lib.Seq.{drop-cons}
+use Rattle.std.proofs.Common.{◌≡◌, refl, sym, ap, ◌∙◌, subst, Bool, true, false, not, cond, ◌&&◌, List, [], ◌∷◌, ◌++◌}
+use Rattle.std.proofs.Common.{⊎_elim, ℕ, suc, ◌+◌, ◌/◌, ◌≤◌, ◌<◌, min, add_assoc, zero-add, add-one, arith, eqb-true}
+use Rattle.std.proofs.Common.{lt-ltb, le-ltb, ltb-true, eqb, ltb, length, get_or, drop, replicate, drop_of_length-le}
+use Rattle.std.proofs.Common.{drop-cons}
+use borrow.Author.Tests.{eqb-false}
+use lib.ListN.{length-replicate}
 use Rattle.bdz_base.specs.Pack.{bits_at}
 use Rattle.bdz_base.specs.Sizes.{occupancy_bytes}
 use Rattle.bdz_table.specs.Graph.{has, Distinct, only_if}
@@ -28,9 +22,6 @@ use Rattle.bdz_list.specs.Tally.{same_count, holders, holders_no, FirstHolders}
 pub record Comparing (values answers : List ℕ) (same i : ℕ) : Type 0 where
   pub few : same ≤ i
   pub left : same + same_count (drop i values) (drop i answers) ≡ same_count values answers
-
-pub comparing_none : (values answers : List ℕ) → Comparing values answers 0 0
-comparing_none values answers = record { few = omega arith; left = zero-add _ }
 
 -- a place counts where the test holds
 pub one_same : {one : ℕ} (b : Bool) → one ≡ bool_byte b → (one ≡ only_if b 1) × (one ≤ 1)

@@ -1,14 +1,7 @@
 -- The records of a list, the two shapes, and the returns of its reader. Assumes nothing.
-use mathlib.Core.Path.{◌≡◌, refl, sym, ap, ◌∙◌}
-use mathlib.Core.Bool.{Bool, true, false, not, ◌&&◌, ◌||◌}
-use mathlib.Core.List.{List}
-use Prim.Native.Nat.{ℕ, zero, suc, ◌+◌, ◌*◌, ◌≤◌, ◌<◌}
-use native.Mathlib.Nat.{zero-add, not-suc-le-zero}
-use native.Mathlib.Numerals.{add-one}
-use native.Mathlib.Omega.{arith}
-use borrow.Author.Tests.{eq-eqb, ne_eqb, lt-ltb, le-ltb, lt-leb, le-leb, ltb-true, ltb-false, eqb-true, eqb-false, not-true, not-false}
-use lib.Dec.{eqb, ltb, leb}
-use lib.ListN.{length}
+use Rattle.std.proofs.Common.{◌≡◌, refl, sym, ap, ◌∙◌, Bool, true, false, not, ◌&&◌, ◌||◌, List, ℕ, zero, suc, ◌+◌, ◌*◌}
+use Rattle.std.proofs.Common.{◌≤◌, ◌<◌, not-suc-le-zero, add-one, arith, ne_eqb, ltb-false, eqb-true, eqb, ltb, length}
+use borrow.Author.Tests.{eqb-false, not-true, not-false}
 use Rattle.bdz_base.specs.Buffer.{tab, over}
 use Rattle.bdz_base.specs.Pack.{bits_at}
 use Rattle.bdz_base.specs.Refusal.{refuse}
@@ -28,32 +21,6 @@ both false b e = clash e refl
 pub neither : (a b : Bool) → (a || b) ≡ false → (a ≡ false) × (b ≡ false)
 neither true b e = clash refl e
 neither false b e = (refl, e)
-
--- at most is not over
-pub at_most : (a b : ℕ) → leb a b ≡ not (ltb b a)
-at_most a b = go (ltb b a) refl
-  where
-    go : (t : Bool) → ltb b a ≡ t → leb a b ≡ not t
-    go true e = lt-leb a b (ltb-true b a e)
-    go false e = le-leb a b (ltb-false b a e)
-
--- ---- places
-
-pub place_compact : (i : ℕ) → i * 10 ≡ place_of Compact i
-place_compact i = sym (zero-add (i * 10))
-
--- a record ends before the next begins
-pub place_step : (kind : Kind) (i n : ℕ) → i < n → place_of kind i + 10 ≤ place_of kind n
-place_step Assigned i n h = omega arith
-place_step Compact i n h = omega arith
-
-pub place_small : (kind : Kind) (i : ℕ) → i ≤ 1000 → place_of kind i ≤ 14006
-place_small Assigned i h = omega arith
-place_small Compact i h = omega arith
-
--- its two bytes are there
-pub place_room : (kind : Kind) (i n len : ℕ) {at : ℕ} → at ≡ place_of kind i → i < n → place_of kind n ≤ len → at + 1 < len
-place_room kind i n len e h k = omega (arith, e, place_step kind i n h)
 
 -- ---- the records one by one
 
@@ -92,20 +59,6 @@ unfolding list_key
 key_here kind bytes i p e = rw p at e
 
 -- ---- the two shapes
-
-module _ (kind : Kind) (bytes : List ℕ) {n : ℕ} (e : n ≡ list_count kind bytes) where
-  pub shaped_many : 1000 < n → false ≡ shaped kind bytes
-  unfolding shaped
-  shaped_many h = rw (← e, lt-ltb 1000 n h)
-
-  module _ {at : ℕ} (few : n ≤ 1000) (p : at ≡ place_of kind n) where
-    pub shaped_cut : (at ≡ length bytes → ⊥) → false ≡ shaped kind bytes
-    unfolding shaped
-    shaped_cut h = rw (← e, le-ltb 1000 n few, ← p, ne_eqb at (length bytes) h)
-
-    pub shaped_is : {t : Bool} → at ≡ length bytes → t ≡ records_are kind bytes n → t ≡ shaped kind bytes
-    unfolding shaped
-    shaped_is h r = rw (← e, le-ltb 1000 n few, ← p, eq-eqb at (length bytes) h) r
 
 -- what a shape tells
 module _ (kind : Kind) (bytes : List ℕ) (s : shaped kind bytes ≡ true) where

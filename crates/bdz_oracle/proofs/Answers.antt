@@ -1,12 +1,6 @@
 -- The words of each key's vertices, and the returns of `bdz_hash_verts`. Assumes nothing.
-use mathlib.Core.Path.{◌≡◌, refl}
-use mathlib.Core.Bool.{true, false}
-use mathlib.Core.List.{List}
-use Prim.Native.Nat.{ℕ, zero, suc, ◌+◌, ◌-◌, ◌*◌, ◌/◌, ◌%◌}
-use native.Mathlib.Nat.{add-zero}
-use native.Mathlib.Omega.{arith}
-use lib.Dec.{ltb}
-use lib.ListN.{length, take, drop}
+use Rattle.std.proofs.Common.{◌≡◌, refl, true, false, List, ℕ, zero, suc, ◌+◌, ◌-◌, ◌*◌, ◌/◌, ◌%◌, add-zero, arith, ltb}
+use Rattle.std.proofs.Common.{length, take, drop}
 use Rattle.bdz_base.specs.Buffer.{tab, over}
 use Rattle.bdz_base.specs.Pack.{bits_at}
 use Rattle.bdz_base.specs.Verts.{verts_of}
@@ -21,7 +15,9 @@ compact_kind zero h = absurd (h refl)
 compact_kind (suc k) h = refl
 
 -- key i is read from its own eight bytes
-pub key_vertices : (kind : Kind) (bytes : List ℕ) (seed m i : ℕ) {key : ℕ} {v : Verts} → key ≡ bits_at 64 (take (i * 8 + 8 - i * 8) (drop (i * 8) bytes)) (0 * 8) → v ≡ verts_of kind key seed m → v ≡ verts_of kind (key_at bytes i) seed m
+pub key_vertices : (kind : Kind) (bytes : List ℕ) (seed m i : ℕ) {key : ℕ} {v : Verts}
+    → key ≡ bits_at 64 (take (i * 8 + 8 - i * 8) (drop (i * 8) bytes)) (0 * 8) → v ≡ verts_of kind key seed m
+    → v ≡ verts_of kind (key_at bytes i) seed m
 unfolding key_at
 key_vertices kind bytes seed m i e f =
     let l : i * 8 + 8 - i * 8 ≡ 8 = omega arith in
@@ -51,10 +47,13 @@ module _ (kind : Kind) (bytes : List ℕ) (seed m i : ℕ) {v : Verts} (e : v �
       let d : (3 * i + 2) / 3 ≡ i = omega arith in
       rw (q, d, e)
 
-pub no_room : (kind : Kind) (bytes : List ℕ) (seed m : ℕ) (out : List ℕ) → ltb (length out) (3 * key_count bytes) ≡ true → Hashed kind bytes seed m out 14 out
+pub no_room : (kind : Kind) (bytes : List ℕ) (seed m : ℕ) (out : List ℕ)
+    → ltb (length out) (3 * key_count bytes) ≡ true → Hashed kind bytes seed m out 14 out
 unfolding hash_no after_hash
 no_room kind bytes seed m out h = record { number_is = simp h; after_is = simp h }
 
-pub hashed : (kind : Kind) (bytes : List ℕ) (seed m : ℕ) (out : List ℕ) {after : List ℕ} → ltb (length out) (3 * key_count bytes) ≡ false → after ≡ over (tab (vertex_at kind bytes seed m) (3 * key_count bytes)) out → Hashed kind bytes seed m out 0 after
+pub hashed : (kind : Kind) (bytes : List ℕ) (seed m : ℕ) (out : List ℕ) {after : List ℕ}
+    → ltb (length out) (3 * key_count bytes) ≡ false
+    → after ≡ over (tab (vertex_at kind bytes seed m) (3 * key_count bytes)) out → Hashed kind bytes seed m out 0 after
 unfolding hash_no after_hash
 hashed kind bytes seed m out h e = record { number_is = simp h; after_is = simp h e }

@@ -1,15 +1,6 @@
 -- Keys and values read from their bytes, the words of an answer, and the returns of the exported lookup, start of a feed and list. Assumes nothing.
-use mathlib.Core.Path.{◌≡◌, refl, sym, ap, ◌∙◌}
-use mathlib.Core.Bool.{Bool, true, false, cond}
-use mathlib.Core.List.{List, [], ◌∷◌}
-use Prim.Native.Nat.{ℕ, ◌+◌, ◌-◌, ◌*◌, ◌≤◌, min}
-use native.Mathlib.Nat.{add-zero}
-use native.Mathlib.Omega.{arith}
-use mir.Val.{bool_byte}
-use lib.Dec.{eqb, ltb}
-use lib.ListN.{length, set, take, drop}
-use lib.Seq.{take_at}
-use borrow.Author.Tests.{ltb-false}
+use Rattle.std.proofs.Common.{◌≡◌, refl, sym, ap, ◌∙◌, Bool, true, false, cond, List, [], ◌∷◌, ℕ, ◌+◌, ◌-◌, ◌*◌, ◌≤◌}
+use Rattle.std.proofs.Common.{min, add-zero, arith, eqb, ltb, length, set, take, drop, take_at, ltb-false}
 use Rattle.bdz_base.specs.Buffer.{tab, over, written}
 use Rattle.bdz_base.specs.Pack.{bits_at}
 use Rattle.bdz_base.specs.Refusal.{refuse}
@@ -22,10 +13,7 @@ use Rattle.bdz_image.specs.Feeding.{Feed, lists_pages, start_no, order_of, pages
 use Rattle.bdz_image.specs.Pages.{padded}
 use Rattle.bdz_oracle.specs.Keys.{key_count, key_at}
 use Rattle.bdz_oracle.specs.Building.{value_at, keys_in}
-use Rattle.bdz_oracle.specs.Imaging.{one_if}
 use Rattle.bdz_oracle.specs.Feeding.{started_no, told_feed, ToldStart}
-use Rattle.bdz_list.specs.List.{Listed, ReadList}
-use Rattle.bdz_oracle.specs.Listing.{lacks_told, told_listed, ToldList}
 use Rattle.bdz_oracle.specs.Looking.{look_no, ToldLookup}
 
 -- key i is read from its own eight bytes
@@ -42,15 +30,6 @@ value_here bytes i e =
     let l : i * 4 + 4 - i * 4 ≡ 4 = omega arith in
     rw (l, bits_part 32 4 (i * 4) 0 bytes (omega arith), add-zero (i * 4 * 8)) at e
 
--- the five words of an answer
-pub five : (old : List ℕ) {a b d e f : ℕ} → 5 ≤ length old → set (set (set (set (set old 0 a) 1 b) 2 d) 3 e) 4 f ≡ over (a ∷ b ∷ d ∷ e ∷ f ∷ []) old
-five [] h = absurd (omega arith)
-five (x ∷ []) h = absurd (omega arith)
-five (x ∷ y ∷ []) h = absurd (omega arith)
-five (x ∷ y ∷ z ∷ []) h = absurd (omega arith)
-five (x ∷ y ∷ z ∷ u ∷ []) h = absurd (omega arith)
-five (x ∷ y ∷ z ∷ u ∷ v ∷ old) h = refl
-
 -- the one of an ask
 pub one : (old : List ℕ) {a : ℕ} → 1 ≤ length old → set old 0 a ≡ over (a ∷ []) old
 one [] h = absurd (omega arith)
@@ -62,11 +41,6 @@ two [] h = absurd (omega arith)
 two (x ∷ []) h = absurd (omega arith)
 two (x ∷ y ∷ old) h = refl
 
--- a truth as a number
-pub byte_if : (b : Bool) → bool_byte b ≡ one_if b
-byte_if true = refl
-byte_if false = refl
-
 -- the three of a list
 pub three : (old : List ℕ) {a b c : ℕ} → 3 ≤ length old → set (set (set old 0 a) 1 b) 2 c ≡ over (a ∷ b ∷ c ∷ []) old
 three [] h = absurd (omega arith)
@@ -77,9 +51,6 @@ three (x ∷ y ∷ z ∷ old) h = refl
 -- what was read is lent on
 pub read_part : (f : ℕ → ℕ) (n : ℕ) (old : List ℕ) {after : List ℕ} → after ≡ over (tab f n) old → take n after ≡ tab f n
 read_part f n old e = rw e (take_at (tab f n) (drop (length (tab f n)) old) n (length_tab f n))
-
-pub read_long : (f : ℕ → ℕ) (n : ℕ) (old : List ℕ) {after : List ℕ} → after ≡ over (tab f n) old → n ≡ length (take n after)
-read_long f n old e = rw (read_part f n old e, length_tab f n)
 
 -- where the judge accepts, the words have room, and it has accepted what comes after them
 pub roomy : (room words next : ℕ) {number : ℕ} → number ≡ refuse 14 (ltb room words) next → number ≡ 0 → words ≤ room
@@ -159,15 +130,3 @@ module _ (index : Index) (bytes : List ℕ) (occ : ℕ) (key_room order slots pa
           pages_are = rw (zero, count) (rw (count, none) at opened.pages_are);
           told_is = rw (room, zero, count) (f ∙ ap (λ (x : Feed). over (told_feed x) told) is);
         }
-
--- ---- lists
-
--- the list that is read and told
-pub some_list : (bytes keys values told : List ℕ) {keys' values' told' : List ℕ} {listed : Listed} → lacks_told told ≡ false → ReadList bytes keys values listed keys' values' → told' ≡ over (told_listed listed) told → ToldList bytes keys values told listed.no keys' values' told'
-some_list bytes keys values told h l e =
-    record {
-      number_is = rw h (ap (λ (x : Listed). x.no) l.answer_is);
-      keys_are = rw h l.keys_are;
-      values_are = rw h l.values_are;
-      told_is = rw h (e ∙ ap (λ (x : Listed). over (told_listed x) told) l.answer_is);
-    }

@@ -13,10 +13,6 @@ pub counted_yes : (b : Bool) (vs : ℕ → List ℕ) (n : ℕ) (ds xs : List ℕ
 counted_yes true vs n ds xs h c = c
 counted_yes false vs n ds xs h c = clash h refl
 
-pub counted_no : (b : Bool) (vs : ℕ → List ℕ) (n : ℕ) (ds xs : List ℕ) → b ≡ false → CountedOr b vs n ds xs → Crowded vs n
-counted_no true vs n ds xs h c = clash refl h
-counted_no false vs n ds xs h c = c
-
 module _ (vs : ℕ → List ℕ) (n m : ℕ) (xs q : List ℕ) where
   pub answer_crowded : Crowded vs n → PeelAnswer false vs n m xs q
   answer_crowded c = record { yes = λ w. clash w refl; no = λ w. inl c }

@@ -302,8 +302,5 @@ pub empty_compact : (keys : List ℕ) → length keys ≡ 0 → (compact_table k
 unfolding compact_table compact_occupancy
 empty_compact keys h = (simp h, simp h)
 
-pub occupied_refused : (keys : List ℕ) (early : ℕ) (occ : List ℕ) → eqb early 0 ≡ false → occ ≡ written (build_no Compact keys early 0) (compact_occupancy keys) occ
-occupied_refused keys early occ h = simp h
-
 pub occupied_empty : (keys : List ℕ) (early : ℕ) (occ : List ℕ) → early ≡ 0 → length keys ≡ 0 → occ ≡ written (build_no Compact keys early 0) (compact_occupancy keys) occ
 occupied_empty keys early occ e l = simp (e, l, (empty_compact keys l).1)

@@ -1,14 +1,9 @@
 -- What a build's needs come to. Assumes nothing.
-use Rattle.std.proofs.Common.{◌≡◌, ℕ, ◌+◌, ◌^◌, ◌<◌, ◌≤◌, Bool, true, false, cond, eqb, sym, refl, arith, eq-eqb, ne_eqb}
+use Rattle.std.proofs.Common.{◌≡◌, ℕ, ◌+◌, ◌^◌, ◌<◌, ◌≤◌, Bool, true, false, cond, eqb, refl, arith, ne_eqb}
 use Rattle.bdz_base.specs.declared.verts.Kind.{Kind}
 use Rattle.bdz_base.specs.declared.verts.Kind.TheVariants.{Assigned, Compact}
 use Rattle.bdz_base.proofs.SizeLaws.{assigned_more, assigned_room, assigned_wide, compact_from_lem, compact_to}
-use Rattle.bdz_table.specs.Build.{size_for, vertices_for, seen_need}
-
--- no keys, no values to have seen
-pub seen_none : (kind : Kind) (n modulus : ℕ) → n ≡ 0 → 0 ≡ seen_need kind n modulus
-seen_none Assigned n modulus e = sym (simp (eq-eqb _ _ e))
-seen_none Compact n modulus e = refl
+use Rattle.bdz_table.specs.Build.{size_for, vertices_for}
 
 size_wide : (kind : Kind) (n : ℕ) → n < 2 ^ 32 → size_for kind n ≤ 2 ^ 34
 size_wide Assigned n h = omega (arith, assigned_wide n h)

@@ -8,7 +8,7 @@ use Rattle.bdz_table.specs.Occupancy.{with_bit}
 use Rattle.bdz_table.specs.Order.{pair_of, no_pair}
 use Rattle.bdz_table.specs.Pairs.{cut_of, cuts_in, noted, PairReady, PairWord, PairsReady, Follows, PairsAssigned, bits_of, Occupies, PairsOccupied}
 use Rattle.bdz_table.specs.Peel.{Cut}
-use Rattle.bdz_table.specs.Steps.{Marked, Word}
+use Rattle.bdz_table.specs.Steps.{Marked}
 use Rattle.bdz_table.specs.declared.pairs.Pair.{Pair}
 use Rattle.bdz_table.proofs.Words.{word_below, marked_more}
 
@@ -50,17 +50,6 @@ module _ (order rest left : List Pair) (p : Pair) (front : FrontOf order rest) (
       ∙ front k (omega (arith, front_long))
 
 -- ---- one pair: the first words of longer buffers are lent, and come back before the rest
-
-pub pair_word : (vs : ℕ → List ℕ) (m M value : ℕ) (p : Pair) {ms g some-ms some-g : List ℕ} → m ≤ length ms → m ≤ length g
-    → Word M value p.vert (vs p.edge) (take m ms) (take m g) some-ms some-g → PairWord vs m M value p ms g (some-ms ++ drop m ms) (some-g ++ drop m g)
-pair_word vs m M value p {ms} {g} {some-ms} {some-g} lm lg w =
-    let long : length some-g ≡ m = ap length w.words ∙ length-set (take m g) p.vert _ ∙ length-take-le m g lg in
-    let marks : length some-ms ≡ m = ap length w.marks ∙ length-set (take m ms) p.vert 1 ∙ length-take-le m ms lm in
-    record {
-      word = record { words = take_at some-g (drop m g) m long ∙ w.words; marks = take_at some-ms (drop m ms) m marks ∙ w.marks };
-      behindg = drop_at some-g (drop m g) m long;
-      behindm = drop_at some-ms (drop m ms) m marks;
-    }
 
 -- ---- the words
 

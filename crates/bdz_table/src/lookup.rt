@@ -78,7 +78,7 @@ fn sum_words(table: &[u32], v: Verts) -> u32
     let a = v.a as usize;
     let b = v.b as usize;
     let c = v.c as usize;
-    std::num::wrapping_add_u32(std::num::wrapping_add_u32(table[a], table[b]), table[c])
+    table[a].wrapping_add(table[b]).wrapping_add(table[c])
 }
 
 // The first, second or third vertex.
@@ -254,6 +254,6 @@ pub fn finish_index(
     if index.n < 2 {
         return Ok(few_answer(kind, index.n, a));
     }
-    let sum = std::num::wrapping_add_u32(std::num::wrapping_add_u32(a, b), c);
+    let sum = a.wrapping_add(b).wrapping_add(c);
     Ok(finish_many(index, key, sum, occ, supers))
 }

@@ -46,7 +46,7 @@ pub fn popcount_bits(occ: &[u8], lo: u64, hi: u64) -> u32
         let take = bits_taken(b, end);
         let at = (b / 8) as usize;
         let ones = ones_in_byte(occ[at], (b % 8) as u32, take as u32);
-        n = std::num::wrapping_add_u32(n, ones);
+        n = n.wrapping_add(ones);
         b += take;
     }
     n
@@ -104,7 +104,7 @@ fn rank_below(occ: &[u8], supers: &[u32], v: u32) -> u32
     let at = block as usize;
     let start = block * 512;
     let ones = popcount_bits(occ, start as u64, v as u64);
-    std::num::wrapping_add_u32(supers[at], ones)
+    supers[at].wrapping_add(ones)
 }
 
 // The rank of v by the lent super counts. A vertex past m has the rank of m. 12, 14.

@@ -8,9 +8,3 @@ returns-then-carry-lt32 c =
     let a = c.args in
     let e : a.carry.bits / 32 * 4 ≡ 0 = omega arith in
     rw e (gave_none a.carry a.body.now)
-
-pub returns : goal.returns
-returns c =
-    let a = c.args in
-    let e : a.carry.bits / 32 * 4 ≡ 4 = omega arith in
-    rw e c.give_four.ensures

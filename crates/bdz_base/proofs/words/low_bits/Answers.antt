@@ -1,15 +1,14 @@
 -- `bdz_base::words::low_bits` meets its contract. Assumes nothing.
-use Rattle.std.proofs.Common.{◌≡◌, ℕ, ◌*◌, ◌%◌, ◌^◌, ◌≤◌, refl, ◌∙◌, lt_of_lt_of_le, mod-lt, one-mul, arith, lit<, pow_pos, pow_mono, shl_exact}
+use Rattle.std.proofs.Common.{◌≡◌, ℕ, ◌*◌, ◌%◌, ◌^◌, ◌≤◌, refl, ◌∙◌, lt_of_lt_of_le, mod-lt, one-mul, arith, lit<}
+use Rattle.std.proofs.Common.{pow_pos, pow_mono, shl_exact}
 use lib.Bits.{and_mask}
 use Rattle.bdz_base.proofs.words.low_bits.Goals as goal
 
 one_shl : (w : ℕ) → w ≤ 32 → 1 * 2 ^ w % 2 ^ 64 ≡ 2 ^ w
 one_shl w h = shl_exact {a = 1} 1 w 64 (lit< tt) (omega arith) ∙ one-mul (2 ^ w)
 
-pub overflow_sub-result : goal.overflow_sub-result
-overflow_sub-result c = rw (one_shl c.args.count c.requires) (pow_pos c.args.count)
-
 pub returns : goal.returns
 returns c =
     let w = c.args.count in
-    rw (one_shl w c.requires, and_mask c.args.x w) (refl, lt_of_lt_of_le (mod-lt c.args.x (pow_pos w)) (pow_mono c.requires))
+    rw (one_shl w c.requires, and_mask c.args.x w)
+    (refl, lt_of_lt_of_le (mod-lt c.args.x (pow_pos w)) (pow_mono c.requires))

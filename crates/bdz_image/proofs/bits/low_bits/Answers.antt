@@ -1,20 +1,14 @@
 -- `bdz_image::bits::low_bits` meets its contract. Assumes nothing.
-use mathlib.Core.Path.{◌≡◌, refl, ◌∙◌}
-use Prim.Native.Nat.{ℕ, ◌*◌, ◌%◌, ◌^◌, ◌≤◌}
-use native.Mathlib.Nat.{one-mul, mod-lt, lt_of_lt_of_le}
-use native.Mathlib.Omega.{arith}
-use lib.Dec.{lit<}
-use lib.Pow.{shl_exact, pow_pos, pow_mono}
+use Rattle.std.proofs.Common.{◌≡◌, refl, ◌∙◌, ℕ, ◌*◌, ◌%◌, ◌^◌, ◌≤◌, one-mul, mod-lt, lt_of_lt_of_le, arith, lit<}
+use Rattle.std.proofs.Common.{shl_exact, pow_pos, pow_mono}
 use lib.Bits.{and_mask}
 use Rattle.bdz_image.proofs.bits.low_bits.Goals as goal
 
 one_shl : (w : ℕ) → w ≤ 32 → 1 * 2 ^ w % 2 ^ 64 ≡ 2 ^ w
 one_shl w h = shl_exact {a = 1} 1 w 64 (lit< tt) (omega arith) ∙ one-mul (2 ^ w)
 
-pub overflow_sub-result : goal.overflow_sub-result
-overflow_sub-result c = rw (one_shl c.args.count c.requires) (pow_pos c.args.count)
-
 pub returns : goal.returns
 returns c =
     let w = c.args.count in
-    rw (one_shl w c.requires, and_mask c.args.x w) (refl, lt_of_lt_of_le (mod-lt c.args.x (pow_pos w)) (pow_mono c.requires))
+    rw (one_shl w c.requires, and_mask c.args.x w)
+    (refl, lt_of_lt_of_le (mod-lt c.args.x (pow_pos w)) (pow_mono c.requires))

@@ -1,24 +1,8 @@
 -- `bdz_image::list::own_page` meets its contract. Assumes nothing.
-use mathlib.Core.Path.{◌≡◌, sym}
-use Prim.Native.Nat.{◌-◌, ◌*◌, ◌/◌, ◌%◌, ◌^◌}
-use native.Mathlib.Nat.{zero-mul, add-zero, one-mul}
-use native.Mathlib.Omega.{arith}
-use lib.ListN.{get_or}
+use Rattle.std.proofs.Common.{◌≡◌, sym, ◌-◌, ◌*◌, ◌/◌, ◌%◌, ◌^◌, zero-mul, add-zero, one-mul, arith, get_or}
 use Rattle.bdz_image.specs.Pages.{own_page}
 use Rattle.bdz_image.proofs.Small.{small_entry}
 use Rattle.bdz_image.proofs.list.own_page.Goals as goal
-
-pub overflow_mul-result : goal.overflow_mul-result
-overflow_mul-result c =
-    let a = c.args in
-    let entry = get_or a.order.now (a.i / 2) 0 in
-    omega (arith, small_entry entry c.bits.result (omega (arith, c.shared_slice_known-1.given (a.i / 2))) (omega arith))
-
-pub overflow_cast-result-then-i-eq0 : goal.overflow_cast-result-then-i-eq0
-overflow_cast-result-then-i-eq0 c =
-    let a = c.args in
-    let entry = get_or a.order.now (a.i / 2) 0 in
-    omega (arith, small_entry entry c.bits.result (omega (arith, c.shared_slice_known-1.given (a.i / 2))) (omega arith))
 
 pub returns-then-i-eq0 : goal.returns-then-i-eq0
 unfolding own_page

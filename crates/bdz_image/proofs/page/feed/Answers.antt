@@ -1,37 +1,33 @@
 -- `bdz_image::page::feed` meets its contract. Assumes nothing.
-use mathlib.Core.Path.{◌≡◌, sym, ◌∙◌}
-use native.Mathlib.Omega.{arith}
-use lib.ListN.{length}
+use Rattle.std.proofs.lemmas.Bool.Decides.{nat_tests}
+use Rattle.bdz_image.specs.Page.{page_slots}
+use Rattle.std.proofs.Common.{◌≡◌, sym, arith, Err, rules}
 use Rattle.bdz_image.specs.Page.{page_no, from_at}
-use Rattle.bdz_image.proofs.PageNos.{page_none, page_some, page_refused, page_taken}
-use Rattle.std.proofs.Common.{Err, rules}
-use Rattle.bdz_base.specs.Refusal.{number}
 use Rattle.bdz_base.proofs.Refusals.{number_some}
 use Rattle.bdz_image.proofs.page.feed.Goals as goal
 
 pub returns-then-lo-order : goal.returns-then-lo-order
+unfolding page_no page_slots
 returns-then-lo-order c =
     let a = c.args in
-    let w = a.width.bits in
-    let e : c.place-lo.result ≡ from_at w a.page a.order.now = rw (sym c.bits.ensures.0) c.place-lo.ensures in
-    let n = page_none w a.m a.page a.bytes.now a.slots.now a.order.now (omega arith) in
-    (n, page_refused w a.m a.page a.bytes.now a.slots.now a.order.now (omega arith))
+    let e : c.place-lo.result ≡ from_at a.width.bits a.page a.order.now =
+    rw (sym c.bits.ensures.0) c.place-lo.ensures in
+    grind (arith, nat_tests)
 
 pub returns-in_err-entry_no : goal.returns-in_err-entry_no
+unfolding page_no page_slots
 returns-in_err-entry_no c =
     let a = c.args in
-    let w = a.width.bits in
     let refusal = c.in_err-entry_no.field-0.0 in
     let is : c.from_residual.result ≡ Err refusal = search rules in
-    let some = number_some refusal in
-    let e : c.place-lo.result ≡ from_at w a.page a.order.now = rw (sym c.bits.ensures.0) c.place-lo.ensures in
-    let n : number refusal ≡ page_no w a.m a.page (length a.bytes.now) a.slots.now a.order.now = c.in_err-entry_no.ensures ∙ rw e (page_some w a.m a.page a.bytes.now a.slots.now a.order.now (omega arith)) in
-    rw is (n, page_refused w a.m a.page a.bytes.now a.slots.now a.order.now (omega arith))
+    let e : c.place-lo.result ≡ from_at a.width.bits a.page a.order.now =
+    rw (sym c.bits.ensures.0) c.place-lo.ensures in
+    rw is (grind (arith, nat_tests, number_some refusal))
 
 pub returns : goal.returns
+unfolding page_no page_slots
 returns c =
     let a = c.args in
-    let w = a.width.bits in
-    let e : c.place-lo.result ≡ from_at w a.page a.order.now = rw (sym c.bits.ensures.0) c.place-lo.ensures in
-    let n : 0 ≡ page_no w a.m a.page (length a.bytes.now) a.slots.now a.order.now = c.in_ok-entry_no.ensures ∙ rw e (page_some w a.m a.page a.bytes.now a.slots.now a.order.now (omega arith)) in
-    (omega arith, c.sweep.ensures ∙ rw e (page_taken w a.m a.page a.bytes.now a.slots.now a.order.now (omega arith)))
+    let e : c.place-lo.result ≡ from_at a.width.bits a.page a.order.now =
+    rw (sym c.bits.ensures.0) c.place-lo.ensures in
+    grind (arith, nat_tests)

@@ -1,13 +1,7 @@
 -- `bdz_image::slot::put_low` meets its contract. Assumes nothing.
-use Prim.Native.Nat.{◌/◌, ◌^◌}
-use native.Mathlib.Nat.{lt_of_le_of_lt}
-use native.Mathlib.Omega.{arith}
-use lib.Pow.{shr_le}
+use Rattle.std.proofs.Common.{◌/◌, ◌^◌, arith}
 use Rattle.bdz_image.proofs.Any.{two_lt, shr32_lt}
 use Rattle.bdz_image.proofs.slot.put_low.Goals as goal
-
-pub join-requires : goal.join-requires
-join-requires c = (c.requires.1, lt_of_le_of_lt (shr_le c.args.old c.args.k) c.requires.0, c.requires.2)
 
 pub returns : goal.returns
 returns c =

@@ -1,8 +1,5 @@
 -- `bdz_image::slot::take_high` meets its contract. Assumes nothing.
-use Prim.Native.Nat.{◌-◌}
-use native.Mathlib.Nat.{lt_of_lt_of_le}
-use native.Mathlib.Omega.{arith}
-use lib.Pow.{pow_pos, pow_mono}
+use Rattle.std.proofs.Common.{◌-◌, lt_of_lt_of_le, arith, pow_mono}
 use lib.Bits.{and_mask}
 use Rattle.bdz_image.specs.Feed.{taken_high}
 use Rattle.bdz_image.proofs.Any.{bits_lt}
@@ -12,13 +9,9 @@ pub put_high-requires : goal.put_high-requires
 put_high-requires c =
     let a = c.args in
     let k = c.cut_of-k.result in
-    let rest = c.bits.result - k in (
-      rw c.bits_at-x.ensures (lt_of_lt_of_le (bits_lt rest a.bytes.now 0) (pow_mono {i = rest} {j = 32 - k} (omega arith))),
-      omega arith,
-    )
-
-pub put_high-requires-2 : goal.put_high-requires-2
-put_high-requires-2 c = (pow_pos (32 - c.cut_of-k.result), omega arith)
+    let rest = c.bits.result - k in
+    let less = lt_of_lt_of_le (bits_lt rest a.bytes.now 0) (pow_mono {i = rest} {j = 32 - k} (omega arith)) in
+    (rw c.bits_at-x.ensures less, omega arith)
 
 pub returns : goal.returns
 unfolding taken_high

@@ -1,9 +1,6 @@
 -- `bdz_image::sweep::touch` meets its contract. Assumes nothing.
-use mathlib.Core.Path.{sym}
-use Prim.Native.Nat.{◌/◌, ◌%◌, ◌^◌, ◌≤◌}
-use native.Mathlib.Omega.{arith}
+use Rattle.std.proofs.Common.{sym, ◌/◌, ◌%◌, ◌^◌, ◌≤◌, arith, length, get_or}
 use lib.Bits.{and_mask}
-use lib.ListN.{length, get_or}
 use lib.Seq.{set_out}
 use Rattle.bdz_image.specs.Feed.{taken_of}
 use Rattle.bdz_image.specs.Sweep.{touch_of}
@@ -17,6 +14,7 @@ pub returns-else-s-slots : goal.returns-else-s-slots
 unfolding touch_of
 returns-else-s-slots c =
     let a = c.args in
-    let w = a.width.bits in
-    let l : length a.slots.now ≤ a.e % 2 ^ 32 = omega (arith, and_mask a.e 32) in
-    sym (set_out a.slots.now (a.e % 2 ^ 32) (taken_of w a.page a.bytes.now (a.e / 2 ^ 32) (get_or a.slots.now (a.e % 2 ^ 32) 0)) l)
+    let s = a.e % 2 ^ 32 in
+    let l : length a.slots.now ≤ s = omega (arith, and_mask a.e 32) in
+    let word = taken_of a.width.bits a.page a.bytes.now (a.e / 2 ^ 32) (get_or a.slots.now s 0) in
+    sym (set_out a.slots.now s word l)

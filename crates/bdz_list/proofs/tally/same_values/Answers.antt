@@ -1,23 +1,7 @@
 -- `bdz_list::tally::same_values` meets its contract. The loop's invariant: i places were compared. Assumes nothing.
 use Rattle.std.proofs.Common.{◌≡◌, length, min, arith, rules}
-use Rattle.bdz_list.proofs.Counts.{one_same, comparing_none, comparing_more, comparing_all}
+use Rattle.bdz_list.proofs.Counts.{one_same, comparing_more, comparing_all}
 use Rattle.bdz_list.proofs.tally.same_values.Goals as goal
-
-pub loop-i-init : goal.loop-i-init
-loop-i-init c = comparing_none _ _
-
-pub bounds-answers-i : goal.bounds-answers-i
-bounds-answers-i c =
-    let n : c.min-n.result ≡ min (length c.args.values.now) (length c.args.answers.now) = search rules in
-    omega arith
-
-pub bounds-values-i : goal.bounds-values-i
-bounds-values-i c =
-    let n : c.min-n.result ≡ min (length c.args.values.now) (length c.args.answers.now) = search rules in
-    omega arith
-
-pub overflow_add-same : goal.overflow_add-same
-overflow_add-same c = omega (arith, c.loop-i.invariant.few, one_same _ c.from-same.ensures)
 
 pub loop-i-preserved : goal.loop-i-preserved
 loop-i-preserved c =

@@ -2,9 +2,7 @@
 use Rattle.bdz_oracle.proofs.Telling.{key_here}
 use Rattle.bdz_oracle.specs.Keys.{key_at}
 use Rattle.bdz_base.proofs.Buffers.{tab_none, tab_more}
-use lib.ListN.{length-set}
-use native.Mathlib.Omega.{arith}
-use mathlib.Core.Path.{◌≡◌, refl}
+use Rattle.std.proofs.Common.{length-set, arith, refl}
 use Rattle.bdz_oracle.proofs.reading.read_keys.Goals as goal
 
 pub loop-i-init : goal.loop-i-init
@@ -16,11 +14,5 @@ pub loop-i-preserved : goal.loop-i-preserved
 loop-i-preserved c =
     let l = c.loop-i in
     let a = c.args in
-    (omega arith, simp length-set (omega arith), rw l.invariant.2 (tab_more (key_at a.keys.now) l.i a.out.now (omega arith) (key_here a.keys.now l.i c.le64.ensures)))
-
-pub returns : goal.returns
-returns c =
-    let l = c.loop-i in
-    let a = c.args in
-    let e : l.i ≡ a.n = omega arith in
-    rw (← e) l.invariant.2
+    let more = tab_more (key_at a.keys.now) l.i a.out.now (omega arith) (key_here a.keys.now l.i c.le64.ensures) in
+    (omega arith, simp length-set (omega arith), rw l.invariant.2 more)

@@ -6,7 +6,7 @@ use Rattle.bdz_table.specs.Values.{values_no}
 use Rattle.bdz_table.specs.Steps.{told_run}
 use Rattle.bdz_table.specs.declared.index.Needs.{Needs}
 use Rattle.bdz_table.proofs.NeedLaws.{vertices_fit}
-use Rattle.bdz_table.proofs.Begun.{assigned_passed, need_table, need_seen, shaped_at, room_at, cleared_part, length_assigned, begun_is, values_below, same_part}
+use Rattle.bdz_table.proofs.Begun.{assigned_passed, need_table, need_seen, shaped_at, room_at, cleared_part, length_assigned, begun_is, values_below}
 use Rattle.bdz_table.proofs.Readying.{verdict_none, ready_begun}
 use Rattle.bdz_table.proofs.build.begin_assigned.Goals as goal
 
@@ -136,14 +136,6 @@ work_assigned-run-requires c =
     let needed = c.needs-need in
     let room = room_at Assigned a.keys.now a.modulus a.table.now a.degrees.now a.xors.now a.queue.now a.order a.marks.now [] a.seen.now c.requires.some p.passed needed.ensures in
     record { shaped = shaped_at Assigned a.keys.now a.modulus a.table.now a.degrees.now a.xors.now a.queue.now a.order a.marks.now [] a.seen.now c.requires.some p.passed needed.ensures; values_len = sym p.same }
-
-pub shape_of-seen : goal.shape_of-seen
-shape_of-seen c =
-    let a = c.args in
-    let p = assigned_passed (length a.keys.now) (length a.values.now) a.modulus (lengths_with a.table.now a.degrees.now a.xors.now a.queue.now a.order a.marks.now [] a.seen.now) c.requires.some c.requires.accepted in
-    let needed = c.needs-need in
-    let room = room_at Assigned a.keys.now a.modulus a.table.now a.degrees.now a.xors.now a.queue.now a.order a.marks.now [] a.seen.now c.requires.some p.passed needed.ensures in
-    same_part _ a.seen.now c.judge_part-verdict.new.seen room.seen c.judge_part-verdict.auto.seen
 
 pub returns : goal.returns
 returns c =

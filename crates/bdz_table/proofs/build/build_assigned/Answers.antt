@@ -1,11 +1,8 @@
 -- `bdz_table::build::build_assigned` meets its contract. Assumes nothing.
 use Rattle.std.proofs.Common.{◌≡◌, ◌<◌, length, get_or, rules, refl, arith}
 use Rattle.bdz_table.specs.Order.{no_pair}
-use Rattle.bdz_table.proofs.Assembling.{assigned_notes, assigned_pairs, assigned_room, assigned_again, assigned_built}
+use Rattle.bdz_table.proofs.Assembling.{assigned_pairs, assigned_built}
 use Rattle.bdz_table.proofs.build.build_assigned.Goals as goal
-
-pub note_order-requires : goal.note_order-requires
-note_order-requires c = assigned_notes _ _ _ _ _ _ _ _ _ _ _ _ _ _ _ _ _ c.ready_assigned-ready.ensures
 
 pub assign_all-requires-clause-callable : goal.assign_all-requires-clause-callable
 assign_all-requires-clause-callable c =
@@ -18,16 +15,6 @@ assign_all-requires-clause-callable c =
 pub assign_all-requires-clause-ready : goal.assign_all-requires-clause-ready
 assign_all-requires-clause-ready c =
     assigned_pairs _ _ _ _ _ _ _ _ _ _ _ _ _ _ _ _ _ c.ready_assigned-ready.ensures c.note_order.ensures (λ i x l h. search rules)
-
-pub clear_scratch-requires : goal.clear_scratch-requires
-clear_scratch-requires c =
-    let words = c.assign_all.ensures (λ p. get_or c.args.values.now p.key 0) (λ i x l h. search rules) in
-    assigned_room _ _ _ _ _ _ _ _ _ _ _ _ _ _ _ _ _ c.ready_assigned-ready.ensures c.note_order.ensures words c.assign_all.auto.marks
-
-pub note_order-requires-2 : goal.note_order-requires-2
-note_order-requires-2 c =
-    let words = c.assign_all.ensures (λ p. get_or c.args.values.now p.key 0) (λ i x l h. search rules) in
-    assigned_again _ _ _ _ _ _ _ _ _ _ _ _ _ _ _ _ _ c.ready_assigned-ready.ensures c.note_order.ensures words c.clear_scratch.ensures
 
 pub returns : goal.returns
 returns c =

@@ -1,11 +1,8 @@
 -- `bdz_table::build::build_compact` meets its contract. Assumes nothing.
 use Rattle.std.proofs.Common.{refl, rules}
 use Rattle.bdz_table.specs.Assign.{part_of}
-use Rattle.bdz_table.proofs.Assembling.{compact_notes, compact_occupies, compact_pairs, compact_room, compact_again, compact_built}
+use Rattle.bdz_table.proofs.Assembling.{compact_occupies, compact_pairs, compact_built}
 use Rattle.bdz_table.proofs.build.build_compact.Goals as goal
-
-pub note_order-requires : goal.note_order-requires
-note_order-requires c = compact_notes _ _ _ _ _ _ _ _ _ _ _ _ _ _ _ c.ready_compact-ready.ensures
 
 pub assign_all-requires-clause-ready : goal.assign_all-requires-clause-ready
 assign_all-requires-clause-ready c =
@@ -14,16 +11,6 @@ assign_all-requires-clause-ready c =
 pub occupy_all-requires : goal.occupy_all-requires
 occupy_all-requires c =
     compact_occupies _ _ _ _ _ _ _ _ _ _ _ _ _ _ _ c.ready_compact-ready.ensures c.note_order.ensures
-
-pub clear_scratch-requires : goal.clear_scratch-requires
-clear_scratch-requires c =
-    let words = c.assign_all.ensures (λ p. part_of c.ready_compact-ready.result.m p.at) (λ i x l h. search rules) in
-    compact_room _ _ _ _ _ _ _ _ _ _ _ _ _ _ _ c.ready_compact-ready.ensures c.note_order.ensures words c.occupy_all.ensures c.assign_all.auto.marks
-
-pub note_order-requires-2 : goal.note_order-requires-2
-note_order-requires-2 c =
-    let words = c.assign_all.ensures (λ p. part_of c.ready_compact-ready.result.m p.at) (λ i x l h. search rules) in
-    compact_again _ _ _ _ _ _ _ _ _ _ _ _ _ _ _ c.ready_compact-ready.ensures c.note_order.ensures words c.occupy_all.ensures c.clear_scratch.ensures
 
 pub returns : goal.returns
 returns c =

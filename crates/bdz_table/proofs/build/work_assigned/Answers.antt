@@ -5,7 +5,7 @@ use Rattle.bdz_base.specs.declared.verts.Kind.TheVariants.{Assigned}
 use Rattle.bdz_base.proofs.Refusals.{number_some}
 use Rattle.bdz_table.specs.Build.{vertices_for, assigned_table}
 use Rattle.bdz_table.proofs.NeedLaws.{vertices_one}
-use Rattle.bdz_table.proofs.Readying.{sought_many, sought_done}
+use Rattle.bdz_table.proofs.Readying.{sought_done}
 use Rattle.bdz_table.proofs.Runs.{ran_refused, old_stays, ran_one, one_word, one_assigned}
 use Rattle.bdz_table.proofs.build.work_assigned.Goals as goal
 
@@ -33,13 +33,3 @@ returns-then-keys-eq1 c =
     let n = c.if-keys-eq1.true in
     let one : vertices_for Assigned (length a.keys.now) ≡ 1 = rw n (vertices_one Assigned) in
     record { ran_to = rw c.in_ok-verdict.was (ran_one Assigned a.keys.now n); sought = sought_done refl (one_word a.table.now _ (p.longt ∙ p.is ∙ one) ∙ sym (one_assigned a.keys.now a.values.now a.modulus n)) }
-
-pub seek-requires : goal.seek-requires
-seek-requires c =
-    c.requires.shaped.many (omega (arith, c.requires.shaped.some, c.if-keys-eq1.false))
-
-pub returns : goal.returns
-returns c =
-    let a = c.args in
-    let ran = c.seek in
-    record { ran_to = rw c.in_ok-verdict.was ran.ensures.ran_to; sought = sought_many ran.ensures.sought_many (assigned_table a.keys.now a.values.now a.modulus) }

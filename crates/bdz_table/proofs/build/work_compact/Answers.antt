@@ -1,9 +1,9 @@
 -- `bdz_table::build::work_compact` meets its contract. Assumes nothing.
 use Rattle.std.proofs.Common.{◌≡◌, length, sym, refl, ◌∙◌, arith}
 use Rattle.bdz_base.specs.declared.verts.Kind.TheVariants.{Compact}
-use Rattle.bdz_table.specs.Build.{vertices_for, compact_table}
+use Rattle.bdz_table.specs.Build.{vertices_for}
 use Rattle.bdz_table.proofs.NeedLaws.{vertices_one}
-use Rattle.bdz_table.proofs.Readying.{sought_many, sought_done, occupancy_sought, occupancy_done}
+use Rattle.bdz_table.proofs.Readying.{sought_done, occupancy_done}
 use Rattle.bdz_table.proofs.Runs.{ran_one, one_word, one_compact, one_occupancy}
 use Rattle.bdz_table.proofs.build.work_compact.Goals as goal
 
@@ -26,13 +26,3 @@ returns-then-keys-eq1 c =
     let one : vertices_for Compact (length a.keys.now) ≡ 1 = rw c.if-keys-eq1.true (vertices_one Compact) in
     let m : a.m ≡ 1 = p.is ∙ one in
     let bytes : length a.occupancy.now ≡ 1 = rw m at c.requires.occupancy_len in record { ran_to = ran_one Compact a.keys.now c.if-keys-eq1.true; sought = sought_done refl (one_word a.table.now 0 (p.longt ∙ m) ∙ sym (one_compact a.keys.now c.if-keys-eq1.true)); occupancy_sought = occupancy_done refl (one_word a.occupancy.now 1 bytes ∙ sym (one_occupancy a.keys.now c.if-keys-eq1.true)) }
-
-pub seek-run-requires : goal.seek-run-requires
-seek-run-requires c =
-    c.requires.shaped.many (omega (arith, c.requires.shaped.some, c.if-keys-eq1.false))
-
-pub returns : goal.returns
-returns c =
-    let a = c.args in
-    let ran = c.seek-run in
-    record { ran_to = ran.ensures.ran_to; sought = sought_many ran.ensures.sought_many (compact_table a.keys.now); occupancy_sought = occupancy_sought ran.ensures.sought_many c.clear_occupancy.ensures c.requires.occupancy_len }

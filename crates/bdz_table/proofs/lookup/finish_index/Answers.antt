@@ -1,5 +1,5 @@
 -- `bdz_table::lookup::finish_index` meets its contract. Assumes nothing.
-use Rattle.std.proofs.Common.{◌≡◌, ◌+◌, ◌%◌, ◌^◌, sym, ◌∙◌, arith, rules, le-ltb, lt-ltb}
+use Rattle.std.proofs.Common.{◌+◌, ◌^◌, rules, le-ltb, lt-ltb}
 use native.Mathlib.Nat.{mod-add-mod}
 use Rattle.bdz_base.proofs.Refusals.{refused_test}
 use Rattle.bdz_table.specs.Lookup.{finished_of, finish_of}
@@ -16,13 +16,8 @@ unfolding finish_of finished_of
 returns-then-index-lt2 c =
     rw (← c.in_ok-lookup_no.ensures, lt-ltb _ _ c.if-index-lt2.true, c.few_answer.ensures)
 
-pub finish_many-requires : goal.finish_many-requires
-finish_many-requires c = (omega (arith, c.if-index-lt2.false), sym c.in_ok-lookup_no.ensures)
-
 pub returns : goal.returns
 unfolding finish_of finished_of
 returns c =
     let a = c.args in
-    let sum : c.wrapping_add_u32-sum.result ≡ (a.a + a.b + a.c) % 2 ^ 32 =
-    c.wrapping_add_u32-sum.ensures.value ∙ rw (c.wrapping_add_u32.ensures.value, mod-add-mod (a.a + a.b) (2 ^ 32) a.c) in
-    rw (← c.in_ok-lookup_no.ensures, le-ltb _ _ c.if-index-lt2.false, ← sum, c.finish_many.ensures)
+    rw (← c.in_ok-lookup_no.ensures, le-ltb _ _ c.if-index-lt2.false, ← mod-add-mod (a.a + a.b) (2 ^ 32) a.c, c.finish_many.ensures)

@@ -1,9 +1,7 @@
 -- `bdz_table::lookup::finish_many` meets its contract. Assumes nothing.
-use Rattle.std.proofs.Common.{length, sym, ap, arith}
-use Rattle.bdz_base.specs.declared.verts.Kind.{Kind}
+use Rattle.std.proofs.Common.{length, arith}
 use Rattle.bdz_base.specs.declared.verts.Kind.TheVariants.{Compact}
 use Rattle.bdz_base.proofs.VertexLaws.{vertices_below}
-use Rattle.bdz_table.specs.Lookup.{many_from}
 use Rattle.bdz_table.proofs.Passed.{fits, room_compact}
 use Rattle.bdz_table.proofs.lookup.finish_many.Goals as goal
 
@@ -18,14 +16,3 @@ compact_finish-requires c =
     let q = fits a.index 1 a.index.m (length a.occ.now) (length a.supers.now) 1 (omega arith) c.requires.0 c.requires.1 in
     let r = room_compact a.index.m a.index.m (length a.occ.now) (length a.supers.now) (rw c.in-Compact.is at q.room) in
     (omega arith, rw c.hash_verts-v.ensures (vertices_below Compact a.key a.index.seed a.index.m q.vertices), r.0, r.2)
-
-pub returns-in-Assigned : goal.returns-in-Assigned
-returns-in-Assigned c =
-    let a = c.args in
-    sym (ap (λ (kind : Kind). many_from kind a.index a.occ.now a.supers.now a.key a.sum) c.in-Assigned.is)
-
-pub returns-in-Compact : goal.returns-in-Compact
-returns-in-Compact c =
-    let a = c.args in
-    rw (c.compact_finish.ensures, c.hash_verts-v.ensures)
-    (sym (ap (λ (kind : Kind). many_from kind a.index a.occ.now a.supers.now a.key a.sum) c.in-Compact.is))

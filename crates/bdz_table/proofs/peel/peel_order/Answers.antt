@@ -1,14 +1,9 @@
 -- `bdz_table::peel::peel_order` meets its contract. Assumes nothing.
 use Rattle.std.proofs.Common.{length, rules}
 use Rattle.bdz_table.specs.Keys.{graph_at}
-use Rattle.bdz_table.proofs.Answers.{counted_yes, counted_no, answer_crowded, answer_counted, turnable}
+use Rattle.bdz_table.proofs.Answers.{counted_yes, answer_counted, turnable}
 use Rattle.bdz_table.proofs.Counting.{graph_at_lem}
 use Rattle.bdz_table.proofs.peel.peel_order.Goals as goal
-
-pub returns-then-not-count_keys : goal.returns-then-not-count_keys
-returns-then-not-count_keys c =
-    let k = c.count_keys in
-    answer_crowded _ _ _ _ _ (counted_no k.result (graph_at c.args.graph) (length c.args.graph.keys.now) k.new.deg k.new.xor_e c.if-not-count_keys.true k.ensures)
 
 pub peel_turns-c-requires : goal.peel_turns-c-requires
 peel_turns-c-requires c =

@@ -10,7 +10,7 @@ loop-b-init c =
 
 pub loop-b-preserved : goal.loop-b-preserved
 loop-b-preserved c =
-    rw c.wrapping_add_u32-n.ensures.value (walked_more c.loop-b.invariant c.loop-b-test.true c.bits_taken-take.ensures (omega (arith, c.type_inv.occ (c.loop-b.b / 8))) c.ones_in_byte-ones.ensures)
+    walked_more c.loop-b.invariant c.loop-b-test.true c.bits_taken-take.ensures (omega (arith, c.type_inv.occ (c.loop-b.b / 8))) c.ones_in_byte-ones.ensures
 
 pub returns : goal.returns
 returns c =
