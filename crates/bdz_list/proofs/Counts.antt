@@ -161,13 +161,13 @@ holding_all {answers = answers} p h =
 
 -- ---- the returns of the count
 
-pub no_holders : (n : ℕ) (answers seen : List ℕ) {need : ℕ} → need ≡ occupancy_bytes n → length seen < need → FirstHolders n answers seen (record { no = 14; count = 0 }) seen
+pub no_holders : (n : ℕ) (answers seen : List ℕ) {need : ℕ} → need ≡ occupancy_bytes n → length seen < need → FirstHolders n answers seen (record { no = 14; answer = 0 }) seen
 unfolding holders_no
 no_holders n answers seen e h =
     let short : ltb (length seen) (occupancy_bytes n) ≡ true = lt-ltb _ _ (rw e at h) in
     record { answer_is = rw short; seen_is = rw short }
 
-pub some_holders : (n : ℕ) (answers seen : List ℕ) {need count : ℕ} {last : List ℕ} → need ≡ occupancy_bytes n → need ≤ length seen → (count ≡ holders n [] answers) × (last ≡ replicate (occupancy_bytes n) 0) → FirstHolders n answers seen (record { no = 0; count = count }) (last ++ drop need seen)
+pub some_holders : (n : ℕ) (answers seen : List ℕ) {need count : ℕ} {last : List ℕ} → need ≡ occupancy_bytes n → need ≤ length seen → (count ≡ holders n [] answers) × (last ≡ replicate (occupancy_bytes n) 0) → FirstHolders n answers seen (record { no = 0; answer = count }) (last ++ drop need seen)
 unfolding holders_no
 some_holders n answers seen {need} {count} {last} e h (counted, zeros) =
     let room : ltb (length seen) (occupancy_bytes n) ≡ false = le-ltb _ _ (rw e at h) in

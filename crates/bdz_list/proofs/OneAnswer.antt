@@ -2,7 +2,8 @@
 use mathlib.Core.Path.{sym, ◌∙◌}
 use mathlib.Core.List.{[], ◌∷◌}
 use Rattle.bdz_base.proofs.OneAnswer.{OneResult, OneOutcome}
-use Rattle.bdz_list.proofs.ToldLaws.{one_told_list, one_told_count}
+use Rattle.bdz_list.proofs.ToldLaws.{one_told_list}
+use Rattle.bdz_table.proofs.ToldLaws.{one_told_answer}
 use Rattle.bdz_list.proofs.list.read_list.Reads as read-list
 use Rattle.bdz_list.proofs.tally.first_holders.Reads as first-holders
 use Rattle.bdz_list.proofs.tally.same_values.Reads as same-values
@@ -14,4 +15,4 @@ pub one_same_values : (κs : _) (a : _) → OneResult (same-values.Post κs a)
 one_same_values κs a x y s t p q = p ∙ sym q
 
 pub one_first_holders : (κs : _) (a : _) → OneOutcome (λ s. s.1.1.0.now) (first-holders.Post κs a)
-one_first_holders κs a x y s t p q = (one_told_count x y (p.answer_is ∙ sym q.answer_is), p.seen_is ∙ sym q.seen_is)
+one_first_holders κs a x y s t p q = (one_told_answer x y (p.answer_is ∙ sym q.answer_is), p.seen_is ∙ sym q.seen_is)

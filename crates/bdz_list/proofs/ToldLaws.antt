@@ -1,9 +1,8 @@
 -- An answer and what is told of it say the same. Assumes nothing.
-use Rattle.std.proofs.Common.{◌≡◌, ℕ, Result, Ok, Err, ap, arith}
+use Rattle.std.proofs.Common.{◌≡◌, Result, Ok, Err, ap, arith}
 use Rattle.bdz_base.specs.declared.refusal.Refusal.{Refusal}
 use Rattle.bdz_base.proofs.Refusals.{one_number, number_some}
 use Rattle.bdz_list.specs.List.{Listed, told_list}
-use Rattle.bdz_list.specs.Tally.{Held, told_count}
 use Rattle.bdz_list.specs.declared.list.KeyList.{KeyList}
 
 pub one_told_list : (x y : Result KeyList Refusal) → told_list x ≡ told_list y → x ≡ y
@@ -11,9 +10,3 @@ one_told_list (Ok a) (Ok b) e = ap (λ (t : Listed). Ok (record { kind = t.kind;
 one_told_list (Ok a) (Err s) e = absurd (omega (arith, number_some s, ap (λ (t : Listed). t.no) e))
 one_told_list (Err r) (Ok b) e = absurd (omega (arith, number_some r, ap (λ (t : Listed). t.no) e))
 one_told_list (Err r) (Err s) e = ap Err (one_number r s (ap (λ (t : Listed). t.no) e))
-
-pub one_told_count : (x y : Result ℕ Refusal) → told_count x ≡ told_count y → x ≡ y
-one_told_count (Ok a) (Ok b) e = ap Ok (ap (λ (t : Held). t.count) e)
-one_told_count (Ok a) (Err s) e = absurd (omega (arith, number_some s, ap (λ (t : Held). t.no) e))
-one_told_count (Err r) (Ok b) e = absurd (omega (arith, number_some r, ap (λ (t : Held). t.no) e))
-one_told_count (Err r) (Err s) e = ap Err (one_number r s (ap (λ (t : Held). t.no) e))

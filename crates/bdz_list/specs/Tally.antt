@@ -1,10 +1,11 @@
 -- How many answers are as they should be: the counts that are printed beside a list. Assumes nothing.
-use Rattle.std.specs.Prelude.{◌≡◌, not, cond, ◌&&◌, List, [], ◌∷◌, ℕ, ◌+◌, eqb, ltb, length, replicate, Result, Ok, Err}
+use Rattle.std.specs.Prelude.{◌≡◌, not, ◌&&◌, List, [], ◌∷◌, ℕ, ◌+◌, eqb, ltb, length, replicate}
 use Rattle.bdz_base.specs.Buffer.{written}
-use Rattle.bdz_base.specs.Refusal.{number, refuse}
+use Rattle.bdz_base.specs.Refusal.{refuse}
 use Rattle.bdz_base.specs.Sizes.{occupancy_bytes}
-use Rattle.bdz_base.specs.declared.refusal.Refusal.{Refusal}
 use Rattle.bdz_table.specs.Graph.{has, only_if}
+use Rattle.bdz_table.specs.Rank.{answered}
+use Rattle.bdz_table.specs.Told.{Answer}
 
 -- "listed keys, those whose answer matches, the rest": the places of both lists that hold the same number
 unfoldable pub same_count : List ℕ → List ℕ → ℕ
@@ -21,19 +22,7 @@ holders n earlier (x ∷ answers) = only_if (ltb x n && not (has x earlier)) 1 +
 unfoldable pub holders_no : ℕ → ℕ → ℕ
 holders_no n seen = refuse 14 (ltb seen (occupancy_bytes n)) 0
 
--- what a count tells: "A refused call answers its number, with every other field zero"
-pub record Held : Type 0 where
-  pub no : ℕ
-  pub count : ℕ
-
-abbrev pub told_count : Result ℕ Refusal → Held
-told_count (Ok count) = record { no = 0; count = count }
-told_count (Err refusal) = record { no = number refusal; count = 0 }
-
-abbrev pub held_of : ℕ → ℕ → Held
-held_of number count = cond (eqb number 0) (record { no = 0; count = count }) (record { no = number; count = 0 })
-
 -- the whole promise: the answer, and "the needed part of each scratch buffer ends as zeros"
-pub record FirstHolders (n : ℕ) (answers seen : List ℕ) (r : Held) (seen' : List ℕ) : Type 0 where
-  pub answer_is : r ≡ held_of (holders_no n (length seen)) (holders n [] answers)
+pub record FirstHolders (n : ℕ) (answers seen : List ℕ) (r : Answer) (seen' : List ℕ) : Type 0 where
+  pub answer_is : r ≡ answered (holders_no n (length seen)) (holders n [] answers)
   pub seen_is : seen' ≡ written (holders_no n (length seen)) (replicate (occupancy_bytes n) 0) seen

@@ -4,7 +4,8 @@ ghost use Rattle.bdz_base.specs.Pack.{bits_at};
 ghost use Rattle.bdz_base.specs.Sizes.{occupancy_bytes};
 ghost use Rattle.bdz_table.specs.Occupancy.{with_bit};
 ghost use Rattle.bdz_list.specs.Steps.{Counted};
-ghost use Rattle.bdz_list.specs.Tally.{same_count, holders, told_count, FirstHolders};
+ghost use Rattle.bdz_table.specs.Told.{told_answer};
+ghost use Rattle.bdz_list.specs.Tally.{same_count, holders, FirstHolders};
 
 use bdz_base::refusal::Refusal;
 use bdz_base::size::occ_packed_bytes;
@@ -82,7 +83,7 @@ fn hold_part(n: u32, answers: &[u32], seen: &mut [u8]) -> u64
 
 // How many answers below n are the first of their kind, with a bit of `seen` for each number below n. 14.
 pub fn first_holders(n: u32, answers: &[u32], seen: &mut [u8]) -> Result<u64, Refusal>
-    ensures { FirstHolders n answers.now seen.old (told_count result) seen.new }
+    ensures { FirstHolders n answers.now seen.old (told_answer result) seen.new }
 {
     let need = occ_packed_bytes(n) as usize;
     if seen.len() < need {

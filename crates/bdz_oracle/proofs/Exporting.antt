@@ -10,12 +10,13 @@ use Rattle.bdz_base.specs.Buffer.{over}
 use Rattle.bdz_base.specs.Refusal.{refuse}
 use Rattle.bdz_base.proofs.Buffers.{length_tab}
 use Rattle.bdz_table.specs.Build.{assigned_early, compact_early, assigned_table, compact_table, compact_occupancy, lengths_of, BuiltAssigned, BuiltCompact}
-use Rattle.bdz_table.specs.Told.{Built, refused_build}
+use Rattle.bdz_table.specs.Told.{Answer, Built, refused_build}
+use Rattle.bdz_oracle.proofs.ToldLaws.{answered_value}
 use Rattle.bdz_table.specs.declared.needs.Lengths.{Lengths}
 use Rattle.bdz_table.specs.declared.pairs.Pair.{Pair}
 use Rattle.bdz_table.proofs.Begun.{refuse_none}
 use Rattle.bdz_oracle.specs.Keys.{key_count, key_at}
-use Rattle.bdz_oracle.specs.Building.{Read, keys_in, value_count, value_at, values_in, assigned_no, compact_no, ReadAssigned, ReadCompact, settled, told_built, AssignedTold, ToldAssigned, CompactTold, ToldCompact}
+use Rattle.bdz_oracle.specs.Building.{keys_in, value_count, value_at, values_in, assigned_no, compact_no, ReadAssigned, ReadCompact, settled, told_built, AssignedTold, ToldAssigned, CompactTold, ToldCompact}
 use Rattle.bdz_oracle.proofs.Telling.{read_part}
 
 -- ---- what is read has room
@@ -56,16 +57,22 @@ module _ (keys key_room : ℕ) (lent : Lengths) (e : compact_no keys key_room le
   unfolding compact_no
   compact_accepts = (refuse_none 13 (ltb key_room keys) _ e).1
 
-module _ (keys values : List ℕ) (modulus : ℕ) (key_room value_room : List ℕ) (lent : Lengths) {r : Read} {key_room' value_room' : List ℕ} (read : ReadAssigned (assigned_no (key_count keys) (value_count values) modulus (length key_room) (length value_room) lent) keys values key_room value_room r key_room' value_room') where
-  pub assigned_key_part : r.count ≤ length key_room
-  assigned_key_part = rw read.read_is (part_fits _ _ _ (assigned_keys_fit (key_count keys) (value_count values) modulus (length key_room) (length value_room) lent))
+module _ (keys values : List ℕ) (modulus : ℕ) (key_room value_room : List ℕ) (lent : Lengths) {r : Answer} {key_room' value_room' : List ℕ} (read : ReadAssigned (assigned_no (key_count keys) (value_count values) modulus (length key_room) (length value_room) lent) keys values key_room value_room r key_room' value_room') where
+  pub assigned_key_part : r.answer ≤ length key_room
+  assigned_key_part =
+      subst (λ (n : ℕ). n ≤ length key_room) (sym (answered_value (assigned_no (key_count keys) (value_count values) modulus (length key_room) (length value_room) lent) (key_count keys) read.read_is))
+      (part_fits _ _ _ (assigned_keys_fit (key_count keys) (value_count values) modulus (length key_room) (length value_room) lent))
 
-  pub assigned_value_part : r.count ≤ length value_room
-  assigned_value_part = rw read.read_is (part_fits _ _ _ (λ e. subst (λ (n : ℕ). n ≤ length value_room) (sym (same_count (key_count keys) (value_count values) modulus (length key_room) (length value_room) lent e)) (assigned_values_fit (key_count keys) (value_count values) modulus (length key_room) (length value_room) lent e)))
+  pub assigned_value_part : r.answer ≤ length value_room
+  assigned_value_part =
+      subst (λ (n : ℕ). n ≤ length value_room) (sym (answered_value (assigned_no (key_count keys) (value_count values) modulus (length key_room) (length value_room) lent) (key_count keys) read.read_is))
+      (part_fits _ _ _ (λ e. subst (λ (n : ℕ). n ≤ length value_room) (sym (same_count (key_count keys) (value_count values) modulus (length key_room) (length value_room) lent e)) (assigned_values_fit (key_count keys) (value_count values) modulus (length key_room) (length value_room) lent e)))
 
-module _ (keys key_room : List ℕ) (lent : Lengths) {r : Read} {key_room' : List ℕ} (read : ReadCompact (compact_no (key_count keys) (length key_room) lent) keys key_room r key_room') where
-  pub compact_key_part : r.count ≤ length key_room
-  compact_key_part = rw read.read_is (part_fits _ _ _ (compact_keys_fit (key_count keys) (length key_room) lent))
+module _ (keys key_room : List ℕ) (lent : Lengths) {r : Answer} {key_room' : List ℕ} (read : ReadCompact (compact_no (key_count keys) (length key_room) lent) keys key_room r key_room') where
+  pub compact_key_part : r.answer ≤ length key_room
+  compact_key_part =
+      subst (λ (n : ℕ). n ≤ length key_room) (sym (answered_value (compact_no (key_count keys) (length key_room) lent) (key_count keys) read.read_is))
+      (part_fits _ _ _ (compact_keys_fit (key_count keys) (length key_room) lent))
 
 -- ---- what is judged, and what is read by it
 
@@ -78,26 +85,26 @@ unfolding compact_no
 compact_judged keys key_room lent e n = rw (← e) n
 
 module _ (early : ℕ) (keys values key_room value_room : List ℕ) {number : ℕ} (e : number ≡ early) where
-  pub assigned_unread : eqb number 0 ≡ false → ReadAssigned early keys values key_room value_room (record { no = number; count = 0 }) key_room value_room
+  pub assigned_unread : eqb number 0 ≡ false → ReadAssigned early keys values key_room value_room (record { no = number; answer = 0 }) key_room value_room
   assigned_unread h = record { read_is = rw (← e, h); key_room_is = rw (← e, h); value_room_is = rw (← e, h) }
 
-  pub assigned_read : {key_room' value_room' : List ℕ} → number ≡ 0 → key_room' ≡ over (keys_in keys) key_room → value_room' ≡ over (values_in values) value_room → ReadAssigned early keys values key_room value_room (record { no = 0; count = key_count keys }) key_room' value_room'
+  pub assigned_read : {key_room' value_room' : List ℕ} → number ≡ 0 → key_room' ≡ over (keys_in keys) key_room → value_room' ≡ over (values_in values) value_room → ReadAssigned early keys values key_room value_room (record { no = 0; answer = key_count keys }) key_room' value_room'
   assigned_read z k v = let q = sym e ∙ z in record { read_is = rw q; key_room_is = rw q k; value_room_is = rw q v }
 
 module _ (early : ℕ) (keys key_room : List ℕ) {number : ℕ} (e : number ≡ early) where
-  pub compact_unread : eqb number 0 ≡ false → ReadCompact early keys key_room (record { no = number; count = 0 }) key_room
+  pub compact_unread : eqb number 0 ≡ false → ReadCompact early keys key_room (record { no = number; answer = 0 }) key_room
   compact_unread h = record { read_is = rw (← e, h); key_room_is = rw (← e, h) }
 
-  pub compact_read : {key_room' : List ℕ} → number ≡ 0 → key_room' ≡ over (keys_in keys) key_room → ReadCompact early keys key_room (record { no = 0; count = key_count keys }) key_room'
+  pub compact_read : {key_room' : List ℕ} → number ≡ 0 → key_room' ≡ over (keys_in keys) key_room → ReadCompact early keys key_room (record { no = 0; answer = key_count keys }) key_room'
   compact_read z k = let q = sym e ∙ z in record { read_is = rw q; key_room_is = rw q k }
 
 -- ---- the promises
 
 -- what is lent to an assigned build
 module _ (keys values : List ℕ) (modulus : ℕ) (key_room value_room table degrees xors queue : List ℕ) (order : List Pair) (marks seen : List ℕ) where
-  module _ (early : ℕ) {r : Read} {key_room' value_room' table' degrees' xors' queue' : List ℕ} {order' : List Pair} {marks' seen' answer' : List ℕ} {built : Built}
+  module _ (early : ℕ) {r : Answer} {key_room' value_room' table' degrees' xors' queue' : List ℕ} {order' : List Pair} {marks' seen' answer' : List ℕ} {built : Built}
       (read : ReadAssigned early keys values key_room value_room r key_room' value_room')
-      (from : BuiltAssigned (take r.count key_room') (take r.count value_room') modulus table degrees xors queue order marks seen built table' degrees' xors' queue' order' marks' seen')
+      (from : BuiltAssigned (take r.answer key_room') (take r.answer value_room') modulus table degrees xors queue order marks seen built table' degrees' xors' queue' order' marks' seen')
       (told : answer' ≡ told_built (settled r.no built)) where
     -- the early checks refuse: the build of no keys has touched nothing
     assigned_refused : eqb early 0 ≡ false → AssignedTold early keys values modulus key_room value_room table degrees xors queue order marks seen key_room' value_room' table' degrees' xors' queue' order' marks' seen' answer'
@@ -148,17 +155,17 @@ module _ (keys values : List ℕ) (modulus : ℕ) (key_room value_room table deg
         go false h = assigned_refused h
         go true h = let z = eqb-true early 0 h in assigned_built z (accepts z) (same z)
 
-  pub assigned_told : {r : Read} {key_room' value_room' table' degrees' xors' queue' : List ℕ} {order' : List Pair} {marks' seen' answer' : List ℕ} {built : Built}
+  pub assigned_told : {r : Answer} {key_room' value_room' table' degrees' xors' queue' : List ℕ} {order' : List Pair} {marks' seen' answer' : List ℕ} {built : Built}
       → ReadAssigned (assigned_no (key_count keys) (value_count values) modulus (length key_room) (length value_room) (lengths_of table degrees xors queue order marks [] seen)) keys values key_room value_room r key_room' value_room'
-      → BuiltAssigned (take r.count key_room') (take r.count value_room') modulus table degrees xors queue order marks seen built table' degrees' xors' queue' order' marks' seen'
+      → BuiltAssigned (take r.answer key_room') (take r.answer value_room') modulus table degrees xors queue order marks seen built table' degrees' xors' queue' order' marks' seen'
       → answer' ≡ told_built (settled r.no built) → ToldAssigned keys values modulus key_room value_room table degrees xors queue order marks seen key_room' value_room' table' degrees' xors' queue' order' marks' seen' answer'
   assigned_told read from told = assigned_by (assigned_no (key_count keys) (value_count values) modulus (length key_room) (length value_room) (lengths_of table degrees xors queue order marks [] seen)) read from told (assigned_accepts (key_count keys) (value_count values) modulus (length key_room) (length value_room) (lengths_of table degrees xors queue order marks [] seen)) (same_count (key_count keys) (value_count values) modulus (length key_room) (length value_room) (lengths_of table degrees xors queue order marks [] seen))
 
 -- what is lent to a compact build
 module _ (keys key_room table occupancy degrees xors queue : List ℕ) (order : List Pair) (marks : List ℕ) where
-  module _ (early : ℕ) {r : Read} {key_room' table' occupancy' degrees' xors' queue' : List ℕ} {order' : List Pair} {marks' answer' : List ℕ} {built : Built}
+  module _ (early : ℕ) {r : Answer} {key_room' table' occupancy' degrees' xors' queue' : List ℕ} {order' : List Pair} {marks' answer' : List ℕ} {built : Built}
       (read : ReadCompact early keys key_room r key_room')
-      (from : BuiltCompact (take r.count key_room') table occupancy degrees xors queue order marks built table' occupancy' degrees' xors' queue' order' marks')
+      (from : BuiltCompact (take r.answer key_room') table occupancy degrees xors queue order marks built table' occupancy' degrees' xors' queue' order' marks')
       (told : answer' ≡ told_built (settled r.no built)) where
     -- the early checks refuse: the build of no keys has touched nothing
     compact_refused : eqb early 0 ≡ false → CompactTold early keys key_room table occupancy degrees xors queue order marks key_room' table' occupancy' degrees' xors' queue' order' marks' answer'
@@ -206,8 +213,8 @@ module _ (keys key_room table occupancy degrees xors queue : List ℕ) (order : 
         go false h = compact_refused h
         go true h = let z = eqb-true early 0 h in compact_built z (accepts z)
 
-  pub compact_told : {r : Read} {key_room' table' occupancy' degrees' xors' queue' : List ℕ} {order' : List Pair} {marks' answer' : List ℕ} {built : Built}
+  pub compact_told : {r : Answer} {key_room' table' occupancy' degrees' xors' queue' : List ℕ} {order' : List Pair} {marks' answer' : List ℕ} {built : Built}
       → ReadCompact (compact_no (key_count keys) (length key_room) (lengths_of table degrees xors queue order marks occupancy [])) keys key_room r key_room'
-      → BuiltCompact (take r.count key_room') table occupancy degrees xors queue order marks built table' occupancy' degrees' xors' queue' order' marks'
+      → BuiltCompact (take r.answer key_room') table occupancy degrees xors queue order marks built table' occupancy' degrees' xors' queue' order' marks'
       → answer' ≡ told_built (settled r.no built) → ToldCompact keys key_room table occupancy degrees xors queue order marks key_room' table' occupancy' degrees' xors' queue' order' marks' answer'
   compact_told read from told = compact_by (compact_no (key_count keys) (length key_room) (lengths_of table degrees xors queue order marks occupancy [])) read from told (compact_accepts (key_count keys) (length key_room) (lengths_of table degrees xors queue order marks occupancy []))

@@ -1,12 +1,12 @@
 -- Keys and values that come as bytes, and the builds told in numbers: what is answered, and what each lent buffer then holds.
 -- Assumes nothing.
-use Rattle.std.specs.Prelude.{◌≡◌, cond, List, [], ◌∷◌, ℕ, ◌*◌, ◌/◌, eqb, ltb, length, Result, Ok, Err}
+use Rattle.std.specs.Prelude.{◌≡◌, cond, List, [], ◌∷◌, ℕ, ◌*◌, ◌/◌, eqb, ltb, length}
 use Rattle.bdz_base.specs.Buffer.{tab, over, written}
 use Rattle.bdz_base.specs.Pack.{bits_at}
-use Rattle.bdz_base.specs.Refusal.{number, refuse}
-use Rattle.bdz_base.specs.declared.refusal.Refusal.{Refusal}
+use Rattle.bdz_base.specs.Refusal.{refuse}
 use Rattle.bdz_table.specs.Build.{assigned_early, compact_early, lengths_of, AssignedFrom, CompactFrom}
-use Rattle.bdz_table.specs.Told.{Built, refused_build}
+use Rattle.bdz_table.specs.Told.{Answer, Built, refused_build}
+use Rattle.bdz_table.specs.Rank.{answered}
 use Rattle.bdz_table.specs.declared.index.Index.{Index}
 use Rattle.bdz_table.specs.declared.needs.Lengths.{Lengths}
 use Rattle.bdz_table.specs.declared.pairs.Pair.{Pair}
@@ -67,25 +67,13 @@ unfoldable pub compact_no : ℕ → ℕ → Lengths → ℕ
 compact_no keys key_room lent = refuse 14 (ltb key_room keys) (compact_early keys lent)
 
 -- what is told of it: the number, and how many keys were read, none of a refusal
-pub record Read : Type 0 where
-  pub no : ℕ
-  pub count : ℕ
-
-abbrev pub told_read : Result ℕ Refusal → Read
-told_read (Ok count) = record { no = 0; count = count }
-told_read (Err refusal) = record { no = number refusal; count = 0 }
-
--- the keys are read where all that is accepted
-abbrev pub read_of : ℕ → ℕ → Read
-read_of early keys = record { no = early; count = cond (eqb early 0) keys 0 }
-
-pub record ReadAssigned (early : ℕ) (keys values key_room value_room : List ℕ) (r : Read) (key_room' value_room' : List ℕ) : Type 0 where
-  pub read_is : r ≡ read_of early (key_count keys)
+pub record ReadAssigned (early : ℕ) (keys values key_room value_room : List ℕ) (r : Answer) (key_room' value_room' : List ℕ) : Type 0 where
+  pub read_is : r ≡ answered early (key_count keys)
   pub key_room_is : key_room' ≡ written early (keys_in keys) key_room
   pub value_room_is : value_room' ≡ written early (values_in values) value_room
 
-pub record ReadCompact (early : ℕ) (keys key_room : List ℕ) (r : Read) (key_room' : List ℕ) : Type 0 where
-  pub read_is : r ≡ read_of early (key_count keys)
+pub record ReadCompact (early : ℕ) (keys key_room : List ℕ) (r : Answer) (key_room' : List ℕ) : Type 0 where
+  pub read_is : r ≡ answered early (key_count keys)
   pub key_room_is : key_room' ≡ written early (keys_in keys) key_room
 
 -- ---- the builds

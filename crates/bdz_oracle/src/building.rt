@@ -2,8 +2,8 @@
 ghost use Rattle.std.specs.Prelude.{◌≡◌, ◌≤◌, length};
 ghost use Rattle.bdz_base.specs.Buffer.{over};
 ghost use Rattle.bdz_base.specs.Refusal.{number_of};
-ghost use Rattle.bdz_table.specs.Told.{told_index};
-ghost use Rattle.bdz_oracle.specs.Building.{value_count, fields_of, lengths_for, assigned_no, compact_no, told_read, ReadAssigned, ReadCompact, settled, told_built, ToldAssigned, ToldCompact};
+ghost use Rattle.bdz_table.specs.Told.{told_answer, told_index};
+ghost use Rattle.bdz_oracle.specs.Building.{value_count, fields_of, lengths_for, assigned_no, compact_no, ReadAssigned, ReadCompact, settled, told_built, ToldAssigned, ToldCompact};
 ghost use Rattle.bdz_oracle.specs.Keys.{key_count};
 
 use super::reading::{number_of, read_keys, read_values, room_no};
@@ -54,7 +54,7 @@ fn read_assigned(
     key_room: &mut [u64],
     value_room: &mut [u32],
 ) -> Result<usize, Refusal>
-    ensures { ReadAssigned (assigned_no (key_count keys.now) (value_count values.now) modulus (length key_room.old) (length value_room.old) (lengths_for table degrees xors queue order marks 0 seen)) keys.now values.now key_room.old value_room.old (told_read result) key_room.new value_room.new }
+    ensures { ReadAssigned (assigned_no (key_count keys.now) (value_count values.now) modulus (length key_room.old) (length value_room.old) (lengths_for table degrees xors queue order marks 0 seen)) keys.now values.now key_room.old value_room.old (told_answer result) key_room.new value_room.new }
 {
     let count = keys.len() / 8;
     let given = values.len() / 4;
@@ -88,7 +88,7 @@ fn read_compact(
     occupancy: usize,
     key_room: &mut [u64],
 ) -> Result<usize, Refusal>
-    ensures { ReadCompact (compact_no (key_count keys.now) (length key_room.old) (lengths_for table degrees xors queue order marks occupancy 0)) keys.now key_room.old (told_read result) key_room.new }
+    ensures { ReadCompact (compact_no (key_count keys.now) (length key_room.old) (lengths_for table degrees xors queue order marks occupancy 0)) keys.now key_room.old (told_answer result) key_room.new }
 {
     let count = keys.len() / 8;
     let lent = Lengths {

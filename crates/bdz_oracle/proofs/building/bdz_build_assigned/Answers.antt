@@ -1,13 +1,14 @@
 -- `bdz_oracle::building::bdz_build_assigned` meets its contract. Assumes nothing.
 use Rattle.std.proofs.Common.{◌≡◌, ◌≤◌, length, sym, ap, ◌∙◌, arith, length-take-le}
-use Rattle.bdz_oracle.specs.Building.{told_built, told_read}
+use Rattle.bdz_oracle.specs.Building.{told_built}
+use Rattle.bdz_table.specs.Told.{told_answer}
 use Rattle.bdz_oracle.proofs.Exporting.{assigned_key_part, assigned_value_part, assigned_told}
 use Rattle.bdz_oracle.proofs.ToldLaws.{no_read, value_read}
 use Rattle.bdz_oracle.proofs.building.bdz_build_assigned.Goals as goal
 use Rattle.bdz_oracle.proofs.building.bdz_build_assigned.Goals.{After-unwrap_or-count}
 
 -- as many keys and values as were read
-count_is : (c : After-unwrap_or-count) → c.unwrap_or-count.result ≡ (told_read c.read_assigned-read.result).count
+count_is : (c : After-unwrap_or-count) → c.unwrap_or-count.result ≡ (told_answer c.read_assigned-read.result).answer
 count_is c = c.unwrap_or-count.ensures ∙ value_read c.read_assigned-read.result
 
 keys_fit : (c : After-unwrap_or-count) → c.unwrap_or-count.result ≤ length c.read_assigned-read.new.key_room

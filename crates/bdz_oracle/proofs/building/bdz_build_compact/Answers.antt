@@ -1,13 +1,14 @@
 -- `bdz_oracle::building::bdz_build_compact` meets its contract. Assumes nothing.
 use Rattle.std.proofs.Common.{◌≡◌, ◌≤◌, length, sym, ap, ◌∙◌, arith, length-take-le}
-use Rattle.bdz_oracle.specs.Building.{told_built, told_read}
+use Rattle.bdz_oracle.specs.Building.{told_built}
+use Rattle.bdz_table.specs.Told.{told_answer}
 use Rattle.bdz_oracle.proofs.Exporting.{compact_key_part, compact_told}
 use Rattle.bdz_oracle.proofs.ToldLaws.{no_read, value_read}
 use Rattle.bdz_oracle.proofs.building.bdz_build_compact.Goals as goal
 use Rattle.bdz_oracle.proofs.building.bdz_build_compact.Goals.{After-unwrap_or-count}
 
 -- as many keys as were read
-count_is : (c : After-unwrap_or-count) → c.unwrap_or-count.result ≡ (told_read c.read_compact-read.result).count
+count_is : (c : After-unwrap_or-count) → c.unwrap_or-count.result ≡ (told_answer c.read_compact-read.result).answer
 count_is c = c.unwrap_or-count.ensures ∙ value_read c.read_compact-read.result
 
 keys_fit : (c : After-unwrap_or-count) → c.unwrap_or-count.result ≤ length c.read_compact-read.new.key_room
