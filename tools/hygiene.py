@@ -21,8 +21,8 @@ WORD = re.compile(r"\[\]|[^\s(){}\[\],;.«»]+")
 TAKEN = re.compile(r"^\s*(?:ghost )?(?:pub )?use ([^\s{]+?)(?:\.\{(.*)\}| as (\S+?))?;?$")
 # the files of a function's own proof, which stand in a folder of its name
 OWN = ("Answers.antt", "Invariants.antt", "Proof.antt")
-# what of std the libraries name: plain numbers, printing's traits and that of errors, which are core's: below core there is no C
-STD = re.compile(r"\bstd::(?!(?:num|fmt|error)\b)\w+|\b(?:HostRuntime|Global|extern \"C\" \{)")
+# what of std the libraries name: plain numbers, below which there is no C
+STD = re.compile(r"\bstd::(?!num\b)\w+|\b(?:HostRuntime|Global|extern \"C\" \{)")
 # the functions of C that a program rests on, as the kit's libc and os declare them: of files std takes them all, whichever are called
 LIBC = """bind chmod chown close fchmod fdatasync flock fsync ftruncate futimens lchown link lseek mkdir pipe2 read readlink realpath
     rename rmdir statx symlink unlink write""".split()

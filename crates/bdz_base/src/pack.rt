@@ -98,7 +98,6 @@ fn give_rest(carry: Carry, body: &mut [u8])
 }
 
 // The words into the first bytes of the body.
-#[inline(never)]
 fn pack_words(g: &[u32], width: Width, body: &mut [u8])
     requires { table_bytes width.bits (length g.now) ≤ length body.old }
     ensures { body.new ≡ over (pack_of width.bits g.now) body.old }

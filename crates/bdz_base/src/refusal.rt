@@ -1,10 +1,7 @@
 // Why a call refuses: document 01's refusals, each under the name of its text there.
-ghost use Rattle.std.specs.Prelude.{◌≡◌, Some};
+ghost use Rattle.std.specs.Prelude.{◌≡◌};
 ghost use Rattle.bdz_base.specs.Refusal.{number};
-ghost use Rattle.bdz_base.specs.Text.{line_of, text_of};
-
-use std::error::Error;
-use std::fmt;
+ghost use Rattle.bdz_base.specs.Text.{text_of};
 
 // In the order of their numbers, from 1 on.
 #[derive(Clone, Copy, Debug, PartialEq, Eq)]
@@ -68,16 +65,3 @@ pub fn refusal_text(no: u32) -> &'static str
         _ => "",
     }
 }
-
-// As "8 bad magic".
-impl fmt::Display for Refusal {
-    ghost output = { λ refusal. Some (line_of refusal) };
-
-    fn fmt<W: fmt::Write>(&self, f: &mut fmt::Formatter<W>) -> fmt::Result {
-        let no = u32::from(*self);
-        let text = refusal_text(no);
-        write!(f, "{no} {text}")
-    }
-}
-
-impl Error for Refusal {}

@@ -67,12 +67,14 @@ fn byte_at(bytes: &[u8], i: usize) -> u64
     bytes.get(i).map_or(0, |&byte| u64::from(byte))
 }
 
-// The first eight bytes, all there: the compiler reads them at once.
+// The first eight bytes, all there: given one by one, the compiler reads them at once, and tests nothing.
 fn le64_inside(part: &[u8]) -> u64
     requires { 8 ≤ length part.now }
     ensures { result ≡ bits_at 64 part.now 0 }
 {
-    u64::from_le_bytes(*part.first_chunk::<8>().unwrap())
+    u64::from_le_bytes([
+        part[0], part[1], part[2], part[3], part[4], part[5], part[6], part[7],
+    ])
 }
 
 // The same where some may be missing. Byte by byte: a copy of so many as are there would be a call in each loop that
@@ -92,11 +94,12 @@ pub fn le64(bytes: &[u8], at: usize) -> u64
     ensures { result ≡ bits_at 64 bytes.now (at * 8) }
 {
     let len = bytes.len();
+    // the case of nearly every word first, by one test: a loop over words is then as fast wherever it comes to lie
+    if at.saturating_add(8) <= len {
+        return le64_inside(&bytes[at..]);
+    }
     if len <= at {
         return 0;
     }
-    if len - at < 8 {
-        return le64_across(&bytes[at..]);
-    }
-    le64_inside(&bytes[at..])
+    le64_across(&bytes[at..])
 }

@@ -23,7 +23,8 @@ use Rattle.bdz_table.specs.declared.pairs.Pair.{Pair}
 use Rattle.bdz_table.proofs.Answered.{occupancy_long}
 use Rattle.bdz_table.proofs.Has.{lt_or_ge}
 use Rattle.bdz_table.proofs.Ranks.{below_front, supers_front}
-use Rattle.bdz_table.specs.Told.{Built, refused_build}
+use Rattle.bdz_table.specs.declared.index.Built.{Built}
+use Rattle.bdz_table.specs.Told.{refused_build}
 use Rattle.bdz_image.specs.Header.{header_bytes}
 use Rattle.bdz_image.specs.Image.{occ_in, header_of, body_of, image_of, image_len}
 use Rattle.bdz_image.specs.Open.{packed_no, compact_no, open_packed, open_compact, open_file}

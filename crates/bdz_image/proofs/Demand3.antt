@@ -33,7 +33,7 @@ use Rattle.bdz_table.proofs.Answered.{OnceEach, assigned_slots, compact_slot, co
 use Rattle.bdz_table.proofs.Fold.{clash}
 use Rattle.bdz_table.proofs.Has.{lt_or_ge}
 use Rattle.bdz_table.proofs.Passed.{supers_accepted, few_answer_lem, finish_few, finish_many}
-use Rattle.bdz_table.specs.Told.{Built}
+use Rattle.bdz_table.specs.declared.index.Built.{Built}
 use Rattle.bdz_image.specs.Feed.{page_of, word_in}
 use Rattle.bdz_image.specs.Feeding.{Feed, feed_m, lists_none, lists_pages, occupancy_no, feed_no, start_room, start_no, feed_of, Opened, PageFed, ask_room, asked_no, asked_of}
 use Rattle.bdz_image.specs.Image.{image_of, image_len}

@@ -26,7 +26,7 @@ use Rattle.bdz_table.proofs.Found.{none_refused, assigned_found, compact_found}
 use Rattle.bdz_table.proofs.Has.{lt_or_ge}
 use Rattle.bdz_table.proofs.NeedLaws.{vertices_fit, vertices_more, vertices_none, vertices_one}
 use Rattle.bdz_table.proofs.Runs.{one_assigned, one_compact}
-use Rattle.bdz_table.specs.Told.{Built}
+use Rattle.bdz_table.specs.declared.index.Built.{Built}
 use Rattle.bdz_image.specs.Image.{occ_in}
 
 pub record Made (index : Index) (table occ : List ℕ) : Type 0 where

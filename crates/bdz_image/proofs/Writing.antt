@@ -1,11 +1,12 @@
--- What the writer's steps come to: words packed into a part of their own, and three parts of one buffer lent one after
--- the other. Assumes nothing.
-use Rattle.std.proofs.Common.{◌≡◌, sym, ap, ap₂, ◌∙◌, List, [], ◌++◌, append_assoc, append-nil, ℕ, ◌+◌, ◌-◌, ◌≤◌, arith}
-use Rattle.std.proofs.Common.{ne_eqb, le-ltb, ltb-false, ltb, length, take, drop, length-append, drop_of_length-le}
-use Rattle.std.proofs.Common.{take_at, drop_at, drop-drop, length-take-le}
+-- What the writer's steps come to: bytes copied, words packed into a part of their own, and three parts of one buffer
+-- lent one after the other. Assumes nothing.
+use Rattle.std.proofs.Common.{◌≡◌, refl, sym, ap, ap₂, ◌∙◌, List, [], ◌∷◌, ◌++◌, append_assoc, append-nil, ℕ, zero, suc}
+use Rattle.std.proofs.Common.{◌+◌, ◌-◌, ◌≤◌, arith, ne_eqb, le-ltb, ltb-false, ltb, length, get_or, take, drop}
+use Rattle.std.proofs.Common.{length-append, drop_of_length-le, take_at, drop_at, drop-drop, length-take-le}
+use lib.Seq.{take-suc, take-length}
 use native.Mathlib.Nat.{sub-zero}
 use borrow.Rule.Slice.PartMut.{put_mid, post_of}
-use Rattle.bdz_base.specs.Buffer.{over}
+use Rattle.bdz_base.specs.Buffer.{tab, over}
 use Rattle.bdz_base.specs.Pack.{pack_of, pack_no, after_pack, Packed}
 use Rattle.bdz_base.specs.Sizes.{table_bytes}
 use Rattle.bdz_base.specs.declared.verts.Kind.{Kind}
@@ -20,6 +21,17 @@ use Rattle.bdz_image.specs.Header.{header_bytes}
 use Rattle.bdz_image.specs.Image.{words_in, occ_in, header_of, body_of, image_of, image_len}
 use Rattle.bdz_image.specs.Write.{write_no}
 use Rattle.bdz_image.proofs.Fields.{length_header}
+
+-- ---- a list by its elements
+
+tab_take : (xs : List ℕ) (n : ℕ) → n ≤ length xs → tab (λ i. get_or xs i 0) n ≡ take n xs
+unfolding tab
+tab_take xs zero h = refl
+tab_take xs (suc n) h =
+    ap (λ (l : List ℕ). l ++ (get_or xs n 0 ∷ [])) (tab_take xs n (omega arith)) ∙ sym (take-suc xs n 0 (omega arith))
+
+pub tab_self : (xs : List ℕ) → tab (λ i. get_or xs i 0) (length xs) ≡ xs
+tab_self xs = tab_take xs (length xs) (omega arith) ∙ take-length xs
 
 -- ---- sizes
 

@@ -4,7 +4,7 @@ use Rattle.bdz_base.specs.Refusal.{refuse, accept}
 use Rattle.bdz_base.specs.declared.verts.Kind.{Kind}
 use Rattle.bdz_base.specs.declared.verts.Kind.TheVariants.{Assigned, Compact}
 use Rattle.bdz_table.specs.Build.{built_for}
-use Rattle.bdz_table.specs.Told.{Built}
+use Rattle.bdz_table.specs.declared.index.Built.{Built}
 use Rattle.bdz_table.specs.declared.index.Index.{Index}
 use Rattle.bdz_image.specs.declared.header.Header.{Header}
 use Rattle.bdz_image.specs.Header.{header_at}

@@ -29,7 +29,12 @@ fn missing_in(page: u32, v: u32, width: Width, slot: u64) -> u64
 pub fn g_page_need(n_bytes: u64, page: u32) -> u64
     ensures { result ≡ page_length n_bytes page }
 {
-    n_bytes.saturating_sub(page as u64 * 4096).min(4096)
+    let base = page as u64 * 4096;
+    // asked first: as a difference that saturates this took half as long again
+    if n_bytes <= base {
+        return 0;
+    }
+    (n_bytes - base).min(4096)
 }
 
 // The slot s, or 0 where there is none.

@@ -19,7 +19,19 @@ fn put_table(words: &[u32], width: Width, out: &mut [u8])
     requires { length out.old ≡ table_bytes width.bits (length words.now) }
     ensures { out.new ≡ pack_of width.bits words.now }
 {
-    pack_g(words, width.bits(), out).unwrap();
+    // of such a part the packer refuses nothing, as the promise of its bytes says
+    let _ = pack_g(words, width.bits(), out);
+}
+
+// The bytes of src, into a part that is just as long. By a loop: the library's `copy_from_slice` would ask whoever
+// links the archive for a memmove.
+fn copy(src: &[u8], dst: &mut [u8])
+    requires { length dst.old ≡ length src.now }
+    ensures { dst.new ≡ src.now }
+{
+    for (i, &byte) in src.iter().enumerate() {
+        dst[i] = byte;
+    }
 }
 
 // Header, table and occupancy, one after the other.
@@ -31,7 +43,7 @@ fn fill(h: Header, width: Width, words: &[u32], room: usize, occ: &[u8], image: 
     let end = 32 + room;
     put_header(h, &mut image[0..32]);
     put_table(words, width, &mut image[32..end]);
-    image[end..end + occ.len()].copy_from_slice(occ);
+    copy(occ, &mut image[end..end + occ.len()]);
 }
 
 // The refusal of a writer by the lengths of what is lent.

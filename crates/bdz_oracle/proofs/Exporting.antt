@@ -10,7 +10,8 @@ use Rattle.bdz_base.specs.Buffer.{over}
 use Rattle.bdz_base.specs.Refusal.{refuse}
 use Rattle.bdz_base.proofs.Buffers.{length_tab}
 use Rattle.bdz_table.specs.Build.{assigned_early, compact_early, assigned_table, compact_table, compact_occupancy, lengths_of, BuiltAssigned, BuiltCompact}
-use Rattle.bdz_table.specs.Told.{Answer, Built, refused_build}
+use Rattle.bdz_table.specs.declared.index.Built.{Built}
+use Rattle.bdz_table.specs.Told.{Answer, refused_build}
 use Rattle.bdz_oracle.proofs.ToldLaws.{answered_value}
 use Rattle.bdz_table.specs.declared.needs.Lengths.{Lengths}
 use Rattle.bdz_table.specs.declared.pairs.Pair.{Pair}

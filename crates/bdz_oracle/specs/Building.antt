@@ -5,7 +5,8 @@ use Rattle.bdz_base.specs.Buffer.{tab, over, written}
 use Rattle.bdz_base.specs.Pack.{bits_at}
 use Rattle.bdz_base.specs.Refusal.{refuse}
 use Rattle.bdz_table.specs.Build.{assigned_early, compact_early, lengths_of, AssignedFrom, CompactFrom}
-use Rattle.bdz_table.specs.Told.{Answer, Built, refused_build}
+use Rattle.bdz_table.specs.declared.index.Built.{Built}
+use Rattle.bdz_table.specs.Told.{Answer, refused_build}
 use Rattle.bdz_table.specs.Rank.{answered}
 use Rattle.bdz_table.specs.declared.index.Index.{Index}
 use Rattle.bdz_table.specs.declared.needs.Lengths.{Lengths}

@@ -1,7 +1,7 @@
 -- Opened images and audits, told in numbers. Assumes nothing.
 use Rattle.std.specs.Prelude.{Bool, cond, List, [], ◌∷◌, ℕ}
 use Rattle.bdz_base.specs.declared.verts.Kind.TheVariants.{Compact}
-use Rattle.bdz_table.specs.Told.{Built}
+use Rattle.bdz_table.specs.declared.index.Built.{Built}
 use Rattle.bdz_image.specs.Audit.{Audited, audit_of}
 use Rattle.bdz_oracle.specs.Building.{fields_of, Told}
 

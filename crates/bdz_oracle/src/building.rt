@@ -6,23 +6,22 @@ ghost use Rattle.bdz_table.specs.Told.{told_answer, told_index};
 ghost use Rattle.bdz_oracle.specs.Building.{value_count, fields_of, lengths_for, assigned_no, compact_no, ReadAssigned, ReadCompact, settled, told_built, ToldAssigned, ToldCompact};
 ghost use Rattle.bdz_oracle.specs.Keys.{key_count};
 
-use super::reading::{number_of, read_keys, read_values, room_no};
+use super::reading::{read_keys, read_values, room_no};
 use bdz_base::refusal::Refusal;
-use bdz_base::verts::Kind;
 use bdz_table::build::{build_assigned, build_compact};
-use bdz_table::index::Index;
+use bdz_table::index::{Built, Index, refused};
 use bdz_table::needs::{Lengths, early_assigned, early_compact};
 use bdz_table::pairs::Pair;
 
-// "with every other field zero"
-const NO_INDEX: Index = Index {
-    kind: Kind::Assigned,
-    n: 0,
-    m: 0,
-    seed: 0,
-    modulus: 0,
-    width: 0,
-};
+// The number of an answer and its index; "with every other field zero" of a refusal.
+fn told_of(built: Result<Index, Refusal>) -> Built
+    ensures { result ≡ told_index built }
+{
+    match built {
+        Ok(index) => Built { no: 0, index },
+        Err(refusal) => refused(u32::from(refusal)),
+    }
+}
 
 // The numbers of an index, one word each; zeros of a refusal, whose number is answered.
 pub(crate) fn tell(opened: Result<Index, Refusal>, answer: &mut [u64]) -> u32
@@ -30,13 +29,14 @@ pub(crate) fn tell(opened: Result<Index, Refusal>, answer: &mut [u64]) -> u32
     ensures number { result ≡ (told_index opened).no }
     ensures words { answer.new ≡ over (fields_of (told_index opened).index) answer.old }
 {
-    let index = opened.unwrap_or(NO_INDEX);
+    let told = told_of(opened);
+    let index = told.index;
     answer[0] = index.n as u64;
     answer[1] = index.m as u64;
     answer[2] = index.seed;
     answer[3] = index.modulus as u64;
     answer[4] = index.width as u64;
-    number_of(opened)
+    told.no
 }
 
 // The early checks of an assigned build, and where they are passed its keys and values, read into their rooms.
@@ -116,12 +116,13 @@ fn settle(read: Result<usize, Refusal>, built: Result<Index, Refusal>) -> Result
 }
 
 // The number of a build and those of its index, one word each.
-fn tell_built(built: Result<Index, Refusal>, answer: &mut [u64; 6])
-    ensures { answer.new ≡ told_built (told_index built) }
+fn tell_built(read: Result<usize, Refusal>, built: Result<Index, Refusal>, answer: &mut [u64; 6])
+    ensures { answer.new ≡ told_built (settled (number_of read) (told_index built)) }
 {
-    let index = built.unwrap_or(NO_INDEX);
+    let told = told_of(settle(read, built));
+    let index = told.index;
     *answer = [
-        number_of(built) as u64,
+        told.no as u64,
         index.n as u64,
         index.m as u64,
         index.seed,
@@ -177,7 +178,7 @@ pub extern "C" fn bdz_build_assigned(
         marks,
         seen,
     );
-    tell_built(settle(read, built), answer);
+    tell_built(read, built, answer);
 }
 
 // The compact build, likewise.
@@ -218,5 +219,5 @@ pub extern "C" fn bdz_build_compact(
         order,
         marks,
     );
-    tell_built(settle(read, built), answer);
+    tell_built(read, built, answer);
 }

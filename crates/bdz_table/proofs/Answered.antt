@@ -21,7 +21,8 @@ use Rattle.bdz_table.specs.Values.{values_no}
 use Rattle.bdz_table.specs.declared.index.Index.{Index}
 use Rattle.bdz_table.specs.declared.needs.Lengths.{Lengths}
 use Rattle.bdz_table.specs.declared.pairs.Pair.{Pair}
-use Rattle.bdz_table.specs.Told.{Built, refused_build}
+use Rattle.bdz_table.specs.declared.index.Built.{Built}
+use Rattle.bdz_table.specs.Told.{refused_build}
 use Rattle.bdz_table.proofs.Begun.{assigned_passed, compact_passed, length_assigned, length_compact, length_occupied, empty_compact}
 use Rattle.bdz_table.proofs.Bits.{occupancy_front, tab_at}
 use Rattle.bdz_table.proofs.Counting.{graph_few}

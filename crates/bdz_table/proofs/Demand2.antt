@@ -15,7 +15,7 @@ use Rattle.bdz_table.specs.Values.{values_no}
 use Rattle.bdz_table.specs.declared.index.Index.{Index}
 use Rattle.bdz_table.specs.declared.needs.Lengths.{Lengths}
 use Rattle.bdz_table.specs.declared.pairs.Pair.{Pair}
-use Rattle.bdz_table.specs.Told.{Built}
+use Rattle.bdz_table.specs.declared.index.Built.{Built}
 use Rattle.bdz_table.proofs.Core.{cut_of_lem, degree_on}
 use Rattle.bdz_table.proofs.Counting.{graph_of_lem}
 use Rattle.bdz_table.proofs.Fold.{clash}

@@ -19,6 +19,7 @@ use Rattle.bdz_table.specs.contracts.build.build_assigned as build-assigned
 use Rattle.bdz_table.proofs.build.build_assigned_small.Reads as build-assigned-small
 use Rattle.bdz_table.specs.contracts.build.build_compact as build-compact
 use Rattle.bdz_table.proofs.build.build_compact_small.Reads as build-compact-small
+use Rattle.bdz_table.proofs.index.refused.Reads as refused
 use Rattle.bdz_table.proofs.index.width_for.Reads as width-for
 use Rattle.bdz_table.proofs.lookup.finish_index.Reads as finish-index
 use Rattle.bdz_table.proofs.lookup.index_batch.Reads as index-batch
@@ -37,6 +38,9 @@ use Rattle.bdz_table.proofs.view.rank1.Reads as rank1
 
 pub one_width_for : (κs : _) (a : _) → OneResult (width-for.Post κs a)
 one_width_for κs a x y s t p q = p ∙ sym q
+
+pub one_refused : (κs : _) (a : _) → OneResult (refused.Post κs a)
+one_refused κs a x y s t p q = p ∙ sym q
 
 pub one_needs : (κs : _) (a : _) → OneResult (needs.Post κs a)
 one_needs κs a x y s t p q = p ∙ sym q

@@ -4,7 +4,7 @@ use Rattle.bdz_base.specs.declared.verts.Kind.TheVariants.{Assigned, Compact}
 use Rattle.bdz_table.specs.Build.{needs_of, assigned_early, compact_early, begun, cleared_pairs, lengths_of, BuiltAssigned, BuiltCompact}
 use Rattle.bdz_table.specs.Order.{no_pair, own_pairs}
 use Rattle.bdz_table.specs.declared.pairs.Pair.{Pair}
-use Rattle.bdz_table.specs.Told.{Built}
+use Rattle.bdz_table.specs.declared.index.Built.{Built}
 use Rattle.bdz_table.proofs.Begun.{assigned_passed, compact_passed}
 use Rattle.bdz_table.proofs.Fold.{clash}
 

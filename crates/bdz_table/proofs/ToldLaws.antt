@@ -2,7 +2,8 @@
 use Rattle.std.proofs.Common.{◌≡◌, ℕ, Result, Ok, Err, ap, arith}
 use Rattle.bdz_base.specs.declared.refusal.Refusal.{Refusal}
 use Rattle.bdz_base.proofs.Refusals.{one_number, number_some}
-use Rattle.bdz_table.specs.Told.{Answer, Built, told_answer, told_index}
+use Rattle.bdz_table.specs.declared.index.Built.{Built}
+use Rattle.bdz_table.specs.Told.{Answer, told_answer, told_index}
 use Rattle.bdz_table.specs.declared.index.Index.{Index}
 
 -- two answers of which the same is told are one answer

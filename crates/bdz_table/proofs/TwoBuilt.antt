@@ -19,7 +19,7 @@ use Rattle.bdz_table.specs.Values.{values_no}
 use Rattle.bdz_table.specs.declared.index.Index.{Index}
 use Rattle.bdz_table.specs.declared.needs.Lengths.{Lengths}
 use Rattle.bdz_table.specs.declared.pairs.Pair.{Pair}
-use Rattle.bdz_table.specs.Told.{Built}
+use Rattle.bdz_table.specs.declared.index.Built.{Built}
 
 abbrev keys : List ℕ
 keys = 7 ∷ 8 ∷ []

@@ -13,7 +13,8 @@ use Rattle.bdz_table.specs.Occupancy.{occupancy_of}
 use Rattle.bdz_table.specs.Order.{no_pair}
 use Rattle.bdz_table.specs.Peel.{Cut, ats_of, peel}
 use Rattle.bdz_table.specs.Seeds.{first_seed}
-use Rattle.bdz_table.specs.Told.{Built, refused_build}
+use Rattle.bdz_table.specs.declared.index.Built.{Built}
+use Rattle.bdz_table.specs.Told.{refused_build}
 use Rattle.bdz_table.specs.Values.{values_no}
 use Rattle.bdz_table.specs.declared.index.Index.{Index}
 use Rattle.bdz_table.specs.declared.index.Needs.{Needs}

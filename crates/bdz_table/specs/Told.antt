@@ -4,6 +4,7 @@ use Rattle.std.specs.Prelude.{ℕ, Result, Ok, Err}
 use Rattle.bdz_base.specs.Refusal.{number}
 use Rattle.bdz_base.specs.declared.refusal.Refusal.{Refusal}
 use Rattle.bdz_base.specs.declared.verts.Kind.TheVariants.{Assigned}
+use Rattle.bdz_table.specs.declared.index.Built.{Built}
 use Rattle.bdz_table.specs.declared.index.Index.{Index}
 
 -- a number
@@ -16,10 +17,6 @@ told_answer (Ok answer) = record { no = 0; answer = answer }
 told_answer (Err refusal) = record { no = number refusal; answer = 0 }
 
 -- an index
-pub record Built : Type 0 where
-  pub no : ℕ
-  pub index : Index
-
 abbrev pub refused_build : ℕ → Built
 refused_build number = record { no = number; index = record { kind = Assigned; n = 0; m = 0; seed = 0; modulus = 0; width = 0 } }
 

@@ -1,10 +1,11 @@
 // Builds index.bdz from keys.lst. Prints only a refusal; a failure of the operating system goes to standard error.
 #![tactic(auto)]
 
-ghost use Rattle.std.specs.Prelude.{◌≡◌, ◌<◌, ◌≤◌, length, true, IfOk};
+ghost use Rattle.std.specs.Prelude.{◌≡◌, ◌<◌, ◌≤◌, length, true, IfOk, Some};
+ghost use Rattle.bdz_base.specs.Text.{line_of};
 ghost use Rattle.std.specs.Str.{IsAscii};
 
-use bdz_base::refusal::Refusal;
+use bdz_base::refusal::{Refusal, refusal_text};
 use bdz_base::verts::Kind;
 use bdz_base::words::le64;
 use bdz_image::size::image_len;
@@ -16,7 +17,22 @@ use std::fs::{File, OpenFile};
 use std::io::{Read, Write};
 use std::random::RandomSource;
 use std::rt::Files;
-use std::{fs, io, str};
+use std::{fmt, fs, io, str};
+
+// A refusal in a line, as "8 bad magic". It stands in both programs: the libraries print nothing, and name nothing of
+// std that does.
+#[derive(Clone, Copy)]
+struct Line(Refusal);
+
+impl fmt::Display for Line {
+    ghost output = { λ line. Some (line_of line.0) };
+
+    fn fmt<W: fmt::Write>(&self, f: &mut fmt::Formatter<W>) -> fmt::Result {
+        let no = u32::from(self.0);
+        let text = refusal_text(no);
+        write!(f, "{no} {text}")
+    }
+}
 
 // Tells standard error what the system said of a file, as "keys.lst: Permission denied": its words alone, without the
 // number that std puts behind them. Where standard error takes nothing, nobody is told.
@@ -280,6 +296,9 @@ fn main(rt: HostRuntime) -> io::Result<()> {
             Ok(())
         }
         // one line, as "refused 8 bad magic"
-        Err(refusal) => println!(rt; "refused {refusal}"),
+        Err(refusal) => {
+            let line = Line(refusal);
+            println!(rt; "refused {line}")
+        }
     }
 }

@@ -2,9 +2,10 @@
 // lines, or one refusal. Nothing is printed before all answers are in.
 #![tactic(auto)]
 
-ghost use Rattle.std.specs.Prelude.{◌≤◌, length, IfOk};
+ghost use Rattle.std.specs.Prelude.{◌≤◌, length, IfOk, Some};
+ghost use Rattle.bdz_base.specs.Text.{line_of};
 
-use bdz_base::refusal::Refusal;
+use bdz_base::refusal::{Refusal, refusal_text};
 use bdz_base::verts::Kind;
 use bdz_image::feed::{feed_ask, feed_page, feed_start};
 use bdz_image::open::{open_compact, open_packed};
@@ -17,7 +18,22 @@ use bdz_table::rank::supers_from_occ_bytes;
 use std::fs::File;
 use std::io::{Read, Seek, SeekFrom, Write};
 use std::rt::Files;
-use std::{io, str};
+use std::{fmt, io, str};
+
+// A refusal in a line, as "8 bad magic". It stands in both programs: the libraries print nothing, and name nothing of
+// std that does.
+#[derive(Clone, Copy)]
+struct Line(Refusal);
+
+impl fmt::Display for Line {
+    ghost output = { λ line. Some (line_of line.0) };
+
+    fn fmt<W: fmt::Write>(&self, f: &mut fmt::Formatter<W>) -> fmt::Result {
+        let no = u32::from(self.0);
+        let text = refusal_text(no);
+        write!(f, "{no} {text}")
+    }
+}
 
 // What follows up to `read_full` stands in build_index too: a library's public function has a promise that leaves one
 // answer, which nothing that reads a file can give.
@@ -282,6 +298,9 @@ fn main(rt: HostRuntime) -> io::Result<()> {
             say_keys(&rt, tried.keys, tried.same)
         }
         // one line, as "refused 8 bad magic"
-        Err(refusal) => println!(rt; "refused {refusal}"),
+        Err(refusal) => {
+            let line = Line(refusal);
+            println!(rt; "refused {line}")
+        }
     }
 }

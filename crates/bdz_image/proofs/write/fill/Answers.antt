@@ -13,9 +13,9 @@ returns c =
     let a = c.args in
     let at_header = c.put_header in
     let at_table = c.put_table in
-    let at_copy = c.copy_from_slice in
-    three_parts a.image.now at_header.new.out at_table.new.out at_copy.new.self a.occ.now a.room
+    let at_copy = c.copy in
+    three_parts a.image.now at_header.new.out at_table.new.out at_copy.new.dst a.occ.now a.room
     (ap length at_header.ensures ∙ length_header a.h)
-    (ap length at_table.ensures ∙ length_packed a.width.bits a.words.now ∙ sym c.requires.0) at_copy.ensures.after
+    (ap length at_table.ensures ∙ length_packed a.width.bits a.words.now ∙ sym c.requires.0) at_copy.ensures
     ∙ ap₂ (λ (h p : List ℕ). h ++ (p ++ (a.occ.now ++ drop (32 + a.room + length a.occ.now) a.image.now)))
     at_header.ensures at_table.ensures

@@ -1,15 +1,7 @@
 -- `bdz_image::write::put_table` meets its contract. Assumes nothing.
 use mathlib.Core.Path.{sym}
-use Rattle.bdz_base.proofs.Refusals.{accepted_ok}
-use Rattle.bdz_image.proofs.Writing.{packed_whole, packed_accepted}
+use Rattle.bdz_image.proofs.Writing.{packed_whole}
 use Rattle.bdz_image.proofs.write.put_table.Goals as goal
-
-pub unwrap-requires : goal.unwrap-requires
-unwrap-requires c =
-    let a = c.args in
-    let w = c.bits.ensures in
-    accepted_ok c.pack_g.result
-    (packed_accepted c.bits.result a.words.now a.out.now c.pack_g.ensures w.1 w.2 (rw w.0 c.requires))
 
 pub returns : goal.returns
 returns c =

@@ -1,6 +1,5 @@
 -- `bdz_oracle::building::bdz_build_compact` meets its contract. Assumes nothing.
-use Rattle.std.proofs.Common.{◌≡◌, ◌≤◌, length, sym, ap, ◌∙◌, arith, length-take-le}
-use Rattle.bdz_oracle.specs.Building.{told_built}
+use Rattle.std.proofs.Common.{◌≡◌, ◌≤◌, length, sym, ◌∙◌, arith, length-take-le}
 use Rattle.bdz_table.specs.Told.{told_answer}
 use Rattle.bdz_oracle.proofs.Exporting.{compact_key_part, compact_told}
 use Rattle.bdz_oracle.proofs.ToldLaws.{no_read, value_read}
@@ -29,6 +28,6 @@ returns c =
     let a = c.args in
     let read = c.read_compact-read in
     let count = count_is (goal.at.returns c).After-unwrap_or-count in
-    let told = c.tell_built.ensures ∙ ap told_built (rw (no_read read.result) at c.settle.ensures) in
+    let told = rw (no_read read.result) at c.tell_built.ensures in
     compact_told a.keys.now a.key_room.now a.table.now a.occupancy.now a.degrees.now a.xors.now a.queue.now
     a.order.now a.marks.now read.ensures (rw count at c.build_compact-built.ensures) told
