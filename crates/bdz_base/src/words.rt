@@ -94,7 +94,7 @@ pub fn le64(bytes: &[u8], at: usize) -> u64
     ensures { result ≡ bits_at 64 bytes.now (at * 8) }
 {
     let len = bytes.len();
-    // the case of nearly every word first, by one test: a loop over words is then as fast wherever it comes to lie
+    // the case of nearly every word first, by one test: a loop over words then loses less to where it comes to lie
     if at.saturating_add(8) <= len {
         return le64_inside(&bytes[at..]);
     }
